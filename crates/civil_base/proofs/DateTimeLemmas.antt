@@ -1,6 +1,6 @@
 -- Instants, local times and offsets of one value.
 use Rattle.std.proofs.Common.{◌≡◌, refl, arith}
-use Rattle.calendar.specs.SignedLaws.{signed}
+use Rattle.basics.specs.SignedLaws.{signed}
 use Rattle.civil_base.specs.declared.offset_date_time.OffsetDateTime.{OffsetDateTime}
 use Rattle.civil_base.specs.Instants.{instant_at, local_at}
 use Rattle.civil_base.specs.DateTimes.{local_of, offset_of, instant}

@@ -3,8 +3,8 @@ use Rattle.std.proofs.Common.{◌≡◌, ◌≢◌, ℕ, ◌<◌, ◌≤◌, ◌
 use Rattle.std.proofs.lemmas.Bool.{and_from, and_parts, false_from_ne_true, cond-false}
 use Rattle.std.proofs.lemmas.Slice.Eq.{bytes_eq-Decides}
 use Rattle.std.specs.Int.Signed.{le_z_yes}
-use Rattle.calendar.specs.SignedLaws.{signed, natural}
-use Rattle.calendar.specs.DateLaws.{last_with-is}
+use Rattle.basics.specs.SignedLaws.{signed, natural}
+use Rattle.basics.specs.DateLaws.{last_with-is}
 use Rattle.civil_base.specs.Layout.{local_text}
 use Rattle.civil_base.specs.LocalTimes.{is_text_of, nth_time, time_with, local_time_in}
 use Rattle.civil_base.specs.Ranges.{first_time, end_of_times, is_in_years, IsInYears}

@@ -1,10 +1,10 @@
 -- Days of the year.
 use Rattle.std.proofs.Common.{◌≡◌, arith, ℕ, ℤ, pos, ◌+ℤ◌, ◌-ℤ◌, to_z, of_z, w32}
-use Rattle.calendar.specs.Days.{day}
-use Rattle.calendar.specs.Dates.{year_of, month_of, day_of}
-use Rattle.calendar.specs.DateLaws.{day-into_year, day-last_of_year, days_into_year-bound, last_date}
-use Rattle.calendar.specs.MonthLaws.{days_in_year-bounds}
-use Rattle.calendar.specs.SignedLaws.{signed, signed_casts}
+use Rattle.basics.specs.Days.{day}
+use Rattle.basics.specs.Dates.{year_of, month_of, day_of}
+use Rattle.basics.specs.DateLaws.{day-into_year, day-last_of_year, days_into_year-bound, last_date}
+use Rattle.basics.specs.MonthLaws.{days_in_year-bounds}
+use Rattle.basics.specs.SignedLaws.{signed, signed_casts}
 use Rattle.civil_base.specs.Ordinals.{IsOrdinal, ordinal_day, ordinal_of}
 use Rattle.civil_base.specs.Ranges.{IsYear, IsDay}
 use Rattle.civil_base.specs.DayLaws.{date_of-day}

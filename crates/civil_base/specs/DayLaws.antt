@@ -1,8 +1,8 @@
 -- The dates of the day numbers of the years.
 use Rattle.std.proofs.Common.{◌≡◌, ℤ, pos, neg_ℤ}
-use Rattle.calendar.specs.Days.{day, IsDate}
-use Rattle.calendar.specs.Dates.{year_of, month_of, day_of}
-use Rattle.calendar.specs.DateLaws.{day_parts, year-between}
+use Rattle.basics.specs.Days.{day, IsDate}
+use Rattle.basics.specs.Dates.{year_of, month_of, day_of}
+use Rattle.basics.specs.DateLaws.{day_parts, year-between}
 use Rattle.civil_base.specs.Ranges.{IsYear, IsDay}
 use Rattle.civil_base.specs.DayRangeLaws.{counted-first, counted-last, day-counted, day-ends}
 

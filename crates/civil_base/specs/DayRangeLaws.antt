@@ -1,10 +1,10 @@
 -- The ends of the ranges as numbers.
 use Rattle.std.specs.Int.{int_div_euclid}
 use Rattle.std.proofs.Common.{◌≡◌, refl, arith, ℕ, ◌<◌, ◌+ℤ◌, ℤ, pos, neg_ℤ, ◌≤ℤ◌, ◌*ℤ◌}
-use Rattle.calendar.specs.Days.{is_leap, days_in_year, days_in_month, days_after_zero, days_before_zero, year_start, days_through, days_into_year, day, IsCountedYear, IsDate}
-use Rattle.calendar.specs.DateLaws.{day-between}
-use Rattle.calendar.specs.MonthLaws.{days_in_month-january}
-use Rattle.calendar.specs.SignedLaws.{signed}
+use Rattle.basics.specs.Days.{is_leap, days_in_year, days_in_month, days_after_zero, days_before_zero, year_start, days_through, days_into_year, day, IsCountedYear, IsDate}
+use Rattle.basics.specs.DateLaws.{day-between}
+use Rattle.basics.specs.MonthLaws.{days_in_month-january}
+use Rattle.basics.specs.SignedLaws.{signed}
 use Rattle.civil_base.specs.Clock.{nanos_per_day}
 use Rattle.civil_base.specs.Ranges.{first_day, last_day, IsDay, IsInYears, IsYear}
 use Rattle.civil_base.specs.RangeLaws.{years_begin, years_end, years_between}

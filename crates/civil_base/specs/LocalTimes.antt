@@ -1,6 +1,6 @@
 -- The local time that a text names.
 use Rattle.std.specs.Prelude.{ℕ, ◌^◌, Bool, ◌&&◌, List, Option, Some, None, bytes_eq, if◌then◌else◌, ℤ, pos, ◌+ℤ◌}
-use Rattle.calendar.specs.Dates.{last_with}
+use Rattle.basics.specs.Dates.{last_with}
 use Rattle.civil_base.specs.Layout.{local_text}
 use Rattle.civil_base.specs.Ranges.{first_time, is_in_years}
 

@@ -1,7 +1,7 @@
 -- Dates with a time of day are in order by the date, and then by the time.
 use Rattle.std.specs.Prelude.{ℕ, ◌<◌, ℤ, pos, ◌+ℤ◌, ◌*ℤ◌, ◌<ℤ◌}
 use Rattle.std.proofs.Common.{arith}
-use Rattle.calendar.specs.SignedLaws.{signed}
+use Rattle.basics.specs.SignedLaws.{signed}
 use Rattle.civil_base.specs.Clock.{nanos_per_day}
 
 pub earlier_date : (k l : ℤ) (t u : ℕ) → t < nanos_per_day → k <ℤ l

@@ -2,10 +2,10 @@
 use Rattle.std.proofs.Common.{◌≡◌, refl, arith, ap, sym, ◌∙◌, ℕ, ℤ, pos, ◌<◌, ◌/◌, ◌%◌, ◌+ℤ◌, ◌*ℤ◌, ◌≢◌, nat_eq, int_lt, ◌∷◌, ◌++◌, length, take, drop, get_or, unsigned_abs, length-append}
 use Rattle.std.proofs.lemmas.List.{take_at, drop_at}
 use Rattle.std.proofs.lemmas.Int.{by_lt_z}
-use Rattle.calendar.specs.Days.{day}
-use Rattle.calendar.specs.Dates.{year_of, month_of, day_of}
-use Rattle.calendar.specs.SignedLaws.{signed, one_sided}
-use Rattle.calendar.specs.MonthLaws.{days_in_month-bounds}
+use Rattle.basics.specs.Days.{day}
+use Rattle.basics.specs.Dates.{year_of, month_of, day_of}
+use Rattle.basics.specs.SignedLaws.{signed, one_sided}
+use Rattle.basics.specs.MonthLaws.{days_in_month-bounds}
 use Rattle.civil_base.specs.Clock.{nanos_per_day, hour_of, minute_of, second_of, nanosecond_of, time_at}
 use Rattle.civil_base.specs.Layout.{two_digits, four_digits, nine_digits, year_sign, date_digits, time_text, day_part, time_part, local_text, offset_text, zoned_text}
 use Rattle.civil_base.specs.Ranges.{IsDay, IsInYears, IsOffset}

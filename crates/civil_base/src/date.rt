@@ -1,8 +1,8 @@
 //! Dates.
 ghost use Rattle.std.specs.Prelude.{◌≡◌, ◌↔◌, pos, ◌+ℤ◌, ◌-ℤ◌, IsOk, IfOk, IsSome, IfSome};
-ghost use Rattle.calendar.specs.Days.{day as day_at, days_in_year, IsDate};
-ghost use Rattle.calendar.specs.Dates.{year_of, month_of, day_of};
-ghost use Rattle.calendar.specs.Weekdays.{weekday_of};
+ghost use Rattle.basics.specs.Days.{day as day_at, days_in_year, IsDate};
+ghost use Rattle.basics.specs.Dates.{year_of, month_of, day_of};
+ghost use Rattle.basics.specs.Weekdays.{weekday_of};
 ghost use Rattle.civil_base.specs.Julian.{julian_of, day_of_julian};
 ghost use Rattle.civil_base.specs.Ordinals.{IsOrdinal, ordinal_day, ordinal_of};
 ghost use Rattle.civil_base.specs.Ranges.{IsYear, IsDay};
@@ -11,7 +11,7 @@ ghost use Rattle.civil_parts.specs.Months.{month_number, IsMonthNumber};
 ghost use Rattle.civil_parts.specs.Weekdays.{weekday_number};
 
 use crate::{ComponentRange, Month, SignedDuration, Weekday};
-use calendar::{date_of, day_number, is_leap_year, weekday};
+use basics::{date_of, day_number, is_leap_year, weekday};
 use std::marker::Model;
 
 // The Julian day of 1970-01-01.

@@ -5,7 +5,7 @@ ghost use Rattle.std.specs.Cmp.{partial_order_from_own_ties};
 ghost use Rattle.std.specs.Cmp.Rules.{comparing, hashing};
 ghost use Rattle.std.specs.Ordering.{on, int_eq, int_cmp, as_partial_cmp};
 ghost use Rattle.std.specs.Hash as fed;
-ghost use Rattle.calendar.specs.Dates.{year_of};
+ghost use Rattle.basics.specs.Dates.{year_of};
 ghost use Rattle.civil_base.specs.Instants.{local_at, nanos_of, seconds_of};
 ghost use Rattle.civil_base.specs.Layout.{day_part, time_part};
 ghost use Rattle.civil_base.specs.Ranges.{IsYear, is_in_years, IsInYears, IsOffset, far_seconds};

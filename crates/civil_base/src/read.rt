@@ -2,7 +2,7 @@
 //!
 //! A local text is read exactly. A zoned text is read loosely, the value found is written, and the two texts are compared.
 ghost use Rattle.std.specs.Prelude.{◌≡◌, ◌≢◌, ℕ, ℤ, ◌<◌, ◌≤◌, pos, ◌+ℤ◌, ◌*ℤ◌, int_lt, unsigned_abs, ◌+◌, ◌*◌, ◌/◌, ◌%◌, [], ◌∷◌, ◌++◌, List, length, slice_index, true, false, IfSome, IsSomeAnd, MatchOption, take, if◌then◌else◌};
-ghost use Rattle.calendar.specs.Dates.{year_of};
+ghost use Rattle.basics.specs.Dates.{year_of};
 ghost use Rattle.civil_base.specs.DateParts.{HasParts};
 ghost use Rattle.civil_base.specs.Clock.{nanos_per_day, hour_of, minute_of, second_of};
 ghost use Rattle.civil_base.specs.DateTimes.{offset_of, instant};

@@ -1,10 +1,10 @@
 //! The months of the year.
 ghost use Rattle.std.specs.Prelude.{◌≡◌, ◌≢◌, ◌+◌, ◌%◌, ◌≤◌, ◌↔◌, IsOk, IfOk, MatchResult, Some};
 ghost use Rattle.std.specs.Fmt.{padded};
-ghost use Rattle.calendar.specs.Days.{days_in_month};
+ghost use Rattle.basics.specs.Days.{days_in_month};
 
 use crate::{ComponentRange, InvalidVariant};
-use calendar::month_length;
+use basics::month_length;
 use std::fmt;
 use std::str::FromStr;
 

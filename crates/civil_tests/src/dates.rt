@@ -1,6 +1,6 @@
 //! Dates, times and instants: days by another calendar's count, texts that are read and written again, and what the constants are.
 ghost use Rattle.std.specs.Prelude.{◌≡◌, pos, neg_ℤ};
-ghost use Rattle.calendar.specs.Days.{day as day_at};
+ghost use Rattle.basics.specs.Days.{day as day_at};
 ghost use Rattle.civil_base.specs.Clock.{time_at};
 ghost use Rattle.civil_base.specs.DateTimes.{instant, offset_of};
 

@@ -4,7 +4,7 @@ ghost use Rattle.std.specs.List.{list_all};
 ghost use Rattle.std.specs.FinMap as map;
 
 use crate::checks::holds;
-use owned::{Items, Text, TextMap};
+use basics::{Items, Text, TextMap};
 use std::alloc::Global;
 use std::process::Abort;
 

@@ -2,7 +2,7 @@
 use Rattle.std.proofs.Common.{◌≡◌, cond, ℕ, ℤ, pos, negsuc, ◌≤ℤ◌, Bool, false, List, [], ◌∷◌, map, filter, int_le, int_lt, refl, ap, arith}
 use Rattle.std.specs.Prelude.{None}
 use Rattle.std.proofs.lemmas.Int.{ints}
-use Rattle.calendar.specs.ComparisonLaws.{lt_fail}
+use Rattle.basics.specs.ComparisonLaws.{lt_fail}
 use Rattle.civil_base.specs.Instants.{seconds_of}
 use Rattle.civil_base.specs.Layout.{day_part, time_part}
 use Rattle.tz_zone.specs.SecondLaws.{second_is}

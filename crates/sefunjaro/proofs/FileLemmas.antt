@@ -2,7 +2,7 @@
 use Rattle.std.proofs.Common.{◌≡◌, ℕ, Bool, true, false, List, [], ℤ, pos, negsuc, Option, Some, None, int_le, refl, sym, ◌∙◌, subst, arith}
 use Rattle.std.specs.Prelude.{◌&&◌, IfErr, IfOk, MatchResult, Result, Ok, Err}
 use Rattle.std.proofs.lemmas.Int.{ints}
-use Rattle.calendar.specs.ComparisonLaws.{le_pass}
+use Rattle.basics.specs.ComparisonLaws.{le_pass}
 use Rattle.civil_base.specs.Ranges.{IsOffset}
 use Rattle.civil_base.specs.RangeLaws.{offset_least, offset_greatest}
 use Rattle.tz_tzif.specs.FooterForce.{FooterZone, standard_total}

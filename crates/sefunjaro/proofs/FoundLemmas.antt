@@ -2,7 +2,7 @@
 use Rattle.std.proofs.Common.{◌≡◌, ◌∙◌, ◌≤◌, ℕ, cond, List, [], ◌∷◌, length, get_or, ℤ, pos, ◌-ℤ◌, to_z, of_z, to_z-of_z, FitsSigned, w32, w64, unsigned_abs, refl, ap, arith}
 use Rattle.std.proofs.lemmas.Bool.{le-ltb}
 use Rattle.std.proofs.lemmas.Int.{ints}
-use Rattle.calendar.specs.SignedLaws.{signed_casts}
+use Rattle.basics.specs.SignedLaws.{signed_casts}
 use Rattle.civil_base.specs.DateTimes.{instant, local_of, offset_of}
 use Rattle.civil_base.specs.Instants.{instant_at, seconds_of}
 use Rattle.civil_base.specs.Ranges.{far_seconds}

@@ -2,7 +2,7 @@
 use Rattle.std.proofs.Common.{◌≡◌, ◌<◌, cond, ℕ, zero, suc, ℤ, pos, negsuc, [], ◌∷◌, lit<, lit≤, refl, ap, arith}
 use Rattle.std.specs.Prelude.{int_lt, slice_index_or}
 use Rattle.std.proofs.lemmas.Int.{ints}
-use Rattle.calendar.specs.Days.{days_in_month, is_leap}
+use Rattle.basics.specs.Days.{days_in_month, is_leap}
 use Rattle.civil_base.specs.Instants.{seconds_of}
 use Rattle.sefunjaro.specs.Clocks.{clock_shown, IsClock}
 use Rattle.sefunjaro.specs.Found.{AreFound, IsFirstFaulty, IsFound, IsFoundInGap, IsFoundOf}

@@ -6,7 +6,7 @@ use Rattle.civil_base.specs.Instants.{instant_at, local_at, nanos_of, seconds_of
 use Rattle.civil_base.specs.Ranges.{IsOffset}
 use Rattle.civil_base.specs.RangeLaws.{offset_least, offset_greatest}
 use Rattle.tz_tzif.specs.FooterForce.{FooterZone}
-use Rattle.calendar.specs.ComparisonLaws.{le_itself}
+use Rattle.basics.specs.ComparisonLaws.{le_itself}
 use Rattle.tz_tzif.specs.Lasting.{IsTold}
 use Rattle.tz_tzif.specs.InForce.{kind_at, kind_in, told_total_at, total_in}
 use Rattle.zone_spans.specs.Schedules.{Schedule, instants, last_total, total_at}

@@ -1,7 +1,7 @@
 -- What replies see of a zone.
 use Rattle.std.proofs.Common.{◌≡◌, ◌≤◌, ℕ, zero, suc, ℤ, pos, ◌-ℤ◌, List, [], ◌∷◌, ◌++◌, length, map, filter, Bool, cond, refl, ap, sym, ◌∙◌, arith, true, false}
 use Rattle.std.specs.Prelude.{int_le, int_lt}
-use Rattle.calendar.specs.ComparisonLaws.{lt_pass, lt_fail, le_from_pass, le_from_fail}
+use Rattle.basics.specs.ComparisonLaws.{lt_pass, lt_fail, le_from_pass, le_from_fail}
 use Rattle.std.proofs.lemmas.Int.{ints}
 use Rattle.civil_base.specs.DateTimes.{instant}
 use Rattle.civil_base.specs.declared.offset_date_time.OffsetDateTime.{OffsetDateTime}

@@ -6,7 +6,7 @@ use Rattle.std.proofs.lemmas.Bool.{and_parts, leb-true, ltb-false}
 use Rattle.std.proofs.lemmas.List.{take_more}
 use Rattle.std.proofs.lemmas.List.Sums.{prefix_len_passes}
 use Rattle.std.proofs.lemmas.Int.{ints}
-use Rattle.calendar.specs.SignedLaws.{signed_casts}
+use Rattle.basics.specs.SignedLaws.{signed_casts}
 use Rattle.civil_base.specs.DateTimes.{instant, local_of, offset_of}
 use Rattle.civil_base.specs.Instants.{instant_at, local_at, nanos_of}
 use Rattle.civil_base.specs.Layout.{day_part, local_text, offset_text, time_part, zoned_text}

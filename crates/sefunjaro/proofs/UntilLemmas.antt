@@ -6,7 +6,7 @@ use Rattle.std.specs.Ordering.{int_eq}
 use Rattle.std.proofs.lemmas.Bool.{cases_lt}
 use Rattle.std.proofs.lemmas.List.{length-map}
 use Rattle.std.proofs.lemmas.Option.{same_Some, none-some}
-use Rattle.calendar.specs.ComparisonLaws.{eq_from_pass, le_pass, le_fail, lt_pass}
+use Rattle.basics.specs.ComparisonLaws.{eq_from_pass, le_pass, le_fail, lt_pass}
 use Rattle.civil_base.specs.Instants.{seconds_of}
 use Rattle.zone_spans.specs.Entries.{Entry}
 use Rattle.tz_zone.specs.Sets.{shift_of, shifts_of}

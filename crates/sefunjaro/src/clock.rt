@@ -70,7 +70,7 @@ impl Clock {
 
 impl Clock {
     ghost use Rattle.std.specs.Prelude.{◌≡◌, IfNone, IfSome, IsTrue};
-    ghost use Rattle.calendar.specs.Days.{day as day_at, IsDate};
+    ghost use Rattle.basics.specs.Days.{day as day_at, IsDate};
     ghost use Rattle.civil_base.specs.Clock.{time_at, IsClockTime};
     ghost use Rattle.civil_base.specs.Ranges.{IsYear};
 

@@ -10,7 +10,7 @@ ghost use Rattle.sefunjaro.specs.Releases.{if_some, release_text};
 ghost use Rattle.zone_source.specs.Releases.{release_of};
 
 use crate::zone::OpenZone;
-use owned::{Items, Text};
+use basics::{Items, Text};
 use std::alloc::{AllocError, Global};
 use thiserror::Error;
 use tz_ever::{EverFault, EverSet, laws};

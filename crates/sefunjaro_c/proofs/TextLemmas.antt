@@ -6,7 +6,7 @@ use Rattle.std.specs.Str.{is_utf8, IsAscii}
 use Rattle.std.proofs.lemmas.Int.{ints}
 use Rattle.std.proofs.lemmas.Str.{is_utf8-from_IsUtf8, IsUtf8-from_ascii, IsAscii-append}
 use Rattle.std.proofs.lemmas.Str.Ascii.{IsAscii-nil}
-use Rattle.calendar.specs.Dates.{year_of, month_of, day_of}
+use Rattle.basics.specs.Dates.{year_of, month_of, day_of}
 use Rattle.civil_base.specs.Clock.{hour_of, minute_of, second_of, nanosecond_of}
 use Rattle.civil_base.specs.Instants.{local_at, seconds_of}
 use Rattle.civil_base.specs.Layout.{date_digits, day_part, four_digits, local_text, nine_digits, offset_text, time_part, time_text, two_digits, year_sign, zoned_text}

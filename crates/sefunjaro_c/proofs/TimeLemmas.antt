@@ -3,8 +3,8 @@ use Rattle.std.proofs.Common.{◌≡◌, ◌<◌, true, ℤ, pos, ◌+ℤ◌, �
 use Rattle.std.specs.Prelude.{◌&&◌}
 use Rattle.std.specs.Int.{w128}
 use Rattle.std.proofs.lemmas.Int.{ints}
-use Rattle.calendar.specs.ComparisonLaws.{le_pass, lt_pass}
-use Rattle.calendar.specs.SignedLaws.{signed_casts}
+use Rattle.basics.specs.ComparisonLaws.{le_pass, lt_pass}
+use Rattle.basics.specs.SignedLaws.{signed_casts}
 use Rattle.civil_base.specs.DateTimes.{instant, local_of, offset_of}
 use Rattle.civil_base.specs.Instants.{instant_at, local_at, nanos_of}
 use Rattle.civil_base.specs.RangeLaws.{offset_least, offset_greatest, offset_size, years_begin, years_end}

@@ -4,7 +4,7 @@
 use crate::checks::{holds, reads};
 use crate::fixtures::{FIXED, at, database_of, parser, table_of};
 use crate::rows::due_of;
-use owned::Text;
+use basics::Text;
 use std::alloc::Global;
 use std::process::Abort;
 use tz_lookup::{Database, TimeZone, Tz};

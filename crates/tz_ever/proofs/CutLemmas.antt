@@ -1,6 +1,6 @@
 -- The span that is in force by the order of the entries is that of the last entry that has come.
 use Rattle.std.proofs.Common.{◌≡◌, ℕ, zero, suc, if◌then◌else◌, List, [], ◌∷◌, map, ℤ, pos, refl, ap, ◌∙◌, arith, slice_index_or}
-use Rattle.calendar.specs.ComparisonLaws.{le_fail, le_pass}
+use Rattle.basics.specs.ComparisonLaws.{le_fail, le_pass}
 use Rattle.civil_base.specs.Instants.{seconds_of}
 use Rattle.zone_spans.specs.Entries.{Entry}
 use Rattle.zone_spans.specs.declared.span.FixedTimespan.{FixedTimespan}

@@ -1,9 +1,9 @@
 -- The zone of New York's last line in years far off, by what Python's zoneinfo says of America/New_York.
 use Rattle.std.proofs.Common.{◌≡◌, refl, [], ◌∷◌, map, take, drop, true, false, pos, List, codes, ℤ, ◌+ℤ◌, ◌-ℤ◌, ◌*ℤ◌, Bool, ℕ, ◌*◌, Some, None, Result, Ok, Err, is_ok}
 use Rattle.std.specs.Ordering.{int_eq}
-use Rattle.calendar.specs.Dates.{last_with}
-use Rattle.calendar.specs.Days.{days_after_zero, year_start, days_through, days_into_year, day, is_leap, days_in_year, days_in_month}
-use Rattle.calendar.specs.Weekdays.{weekday_of}
+use Rattle.basics.specs.Dates.{last_with}
+use Rattle.basics.specs.Days.{days_after_zero, year_start, days_through, days_into_year, day, is_leap, days_in_year, days_in_month}
+use Rattle.basics.specs.Weekdays.{weekday_of}
 use Rattle.civil_base.specs.Instants.{instant_at}
 use Rattle.zone_values.specs.Days.{named_day, first_from, is_in_year}
 use Rattle.zone_values.specs.declared.day.DaySpec.TheVariants.{FirstOnOrAfter}

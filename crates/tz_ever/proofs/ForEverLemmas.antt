@@ -2,10 +2,10 @@
 use Rattle.std.proofs.Common.{◌≡◌, ℕ, zero, suc, ◌+◌, ◌*◌, ◌≤◌, List, true, Some, Ok, ℤ, pos, ◌+ℤ◌, ◌-ℤ◌, ◌*ℤ◌, ◌<ℤ◌, refl, sym, ap, ◌∙◌, subst, arith}
 use Rattle.std.specs.List.{list_all}
 use Rattle.std.specs.Option.{option_map_or}
-use Rattle.calendar.specs.Days.{day}
-use Rattle.calendar.specs.MonthLaws.{days_through-two}
-use Rattle.calendar.specs.SignedLaws.{signed}
-use Rattle.calendar.specs.YearLaws.{day-cycle}
+use Rattle.basics.specs.Days.{day}
+use Rattle.basics.specs.MonthLaws.{days_through-two}
+use Rattle.basics.specs.SignedLaws.{signed}
+use Rattle.basics.specs.YearLaws.{day-cycle}
 use Rattle.zone_table.specs.declared.zone.ZoneInfo.{ZoneInfo}
 use Rattle.zone_spans.specs.Bounds.{is_bounded_line}
 use Rattle.zone_spans.specs.Compiled.{compiled, compiled_over}

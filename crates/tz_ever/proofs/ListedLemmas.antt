@@ -1,8 +1,8 @@
 -- What an entry of the list puts in force from its second on.
 use Rattle.std.proofs.Common.{◌≡◌, ℕ, suc, ◌<◌, ℤ, pos, ◌*ℤ◌, ◌≤ℤ◌, ◌<ℤ◌, length, get_or, sym, ap, ◌∙◌, subst, arith}
 use Rattle.std.proofs.lemmas.List.{length-map}
-use Rattle.calendar.specs.ComparisonLaws.{lt_le}
-use Rattle.calendar.specs.SignedLaws.{signed}
+use Rattle.basics.specs.ComparisonLaws.{lt_le}
+use Rattle.basics.specs.SignedLaws.{signed}
 use Rattle.civil_base.specs.Instants.{nanos_of, seconds_of}
 use Rattle.zone_spans.specs.Entries.{Entry}
 use Rattle.tz_zone.specs.Compiles.{spans_of}

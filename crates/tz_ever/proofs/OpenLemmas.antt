@@ -2,7 +2,7 @@
 use Rattle.std.proofs.Common.{◌≡◌, ℕ, ◌*ℤ◌, ◌<ℤ◌, List, Option, Some, None, option_map, Result, Ok, Err, true, false, ℤ, pos, IsTrue, refl, sym, ap, ◌∙◌, arith}
 use Rattle.std.specs.FinMap.{get}
 use Rattle.std.specs.List.{list_all}
-use Rattle.calendar.specs.SignedLaws.{signed}
+use Rattle.basics.specs.SignedLaws.{signed}
 use Rattle.zone_table.specs.Resolved.{resolved_in}
 use Rattle.zone_table.specs.declared.table.Table.{Table}
 use Rattle.zone_table.specs.declared.zone.ZoneInfo.{ZoneInfo}

@@ -1,7 +1,7 @@
 -- Days and times of day, brought back by whole cycles.
 use Rattle.std.proofs.Common.{◌≡◌, arith, ℕ, ◌+◌, ◌*◌, ◌/◌, ◌%◌, ◌<◌, ℤ, pos, ◌+ℤ◌, ◌-ℤ◌, ◌*ℤ◌, ◌≤ℤ◌, ◌<ℤ◌, int_lt, Bool, true, false, not, refl, sym, ap, ◌∙◌}
-use Rattle.calendar.specs.ComparisonLaws.{lt_from_fail, lt_from_pass, lt_pass}
-use Rattle.calendar.specs.SignedLaws.{signed}
+use Rattle.basics.specs.ComparisonLaws.{lt_from_fail, lt_from_pass, lt_pass}
+use Rattle.basics.specs.SignedLaws.{signed}
 use Rattle.civil_base.specs.Clock.{nanos_per_day}
 use Rattle.civil_base.specs.Layout.{day_part, time_part}
 use Rattle.civil_base.specs.PartLaws.{parts-joined, time_part-inside}

@@ -1,6 +1,6 @@
 -- One total is in force throughout a second, for ever.
 use Rattle.std.proofs.Common.{◌≡◌, ℕ, ◌*◌, ℤ, pos, ◌-ℤ◌, sym, ap, ◌∙◌, arith}
-use Rattle.calendar.specs.SignedLaws.{signed}
+use Rattle.basics.specs.SignedLaws.{signed}
 use Rattle.civil_base.specs.Instants.{nanos_of, seconds_of}
 use Rattle.zone_spans.specs.Schedules.{Schedule, total_at}
 use Rattle.tz_zone.specs.SecondLaws.{IsSecond, one_second, second_is, total_is}

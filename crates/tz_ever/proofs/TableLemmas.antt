@@ -4,8 +4,8 @@ use Rattle.std.proofs.Math.ListN.{get_or-append}
 use Rattle.std.proofs.Math.Nat.{div-add-mod', mul-le-mul_right}
 use Rattle.std.proofs.lemmas.Bool.{cases_Bool, cases_lt}
 use Rattle.std.proofs.lemmas.List.{get_or-append-add, get_or-map, length-append, length-map}
-use Rattle.calendar.specs.ComparisonLaws.{lt_pass, lt_from_fail, lt_fail}
-use Rattle.calendar.specs.SignedLaws.{signed}
+use Rattle.basics.specs.ComparisonLaws.{lt_pass, lt_from_fail, lt_fail}
+use Rattle.basics.specs.SignedLaws.{signed}
 use Rattle.zone_spans.specs.Cycle.{entry_on}
 use Rattle.zone_spans.specs.Entries.{Entry}
 use Rattle.tz_zone.specs.Sets.{IsAccepted, IsSpanTime, schedule_of, shift_of, shifts_of, span_in}

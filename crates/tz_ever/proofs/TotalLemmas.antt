@@ -3,8 +3,8 @@ use Rattle.std.proofs.Common.{◌≡◌, ℕ, zero, suc, Bool, true, false, cond
 use Rattle.std.specs.List.{filter}
 use Rattle.std.specs.Ordering.{int_eq}
 use Rattle.std.proofs.lemmas.List.{length-map}
-use Rattle.calendar.specs.ComparisonLaws.{eq_from_pass}
-use Rattle.calendar.specs.SignedLaws.{one_sided, signed}
+use Rattle.basics.specs.ComparisonLaws.{eq_from_pass}
+use Rattle.basics.specs.SignedLaws.{one_sided, signed}
 use Rattle.civil_base.specs.DateTimes.{at_offset, offset_of}
 use Rattle.civil_base.specs.Instants.{instant_at}
 use Rattle.civil_base.specs.RangeLaws.{offset_by_size}

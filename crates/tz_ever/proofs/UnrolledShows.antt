@@ -2,8 +2,8 @@
 use Rattle.std.proofs.Common.{◌≡◌, ℕ, zero, suc, ◌*◌, ◌<◌, Bool, true, false, ◌&&◌, cond, List, [], ◌∷◌, ◌++◌, length, map, filter, ℤ, pos, neg_ℤ, ◌+ℤ◌, ◌-ℤ◌, ◌≤ℤ◌, ◌<ℤ◌, int_le, int_lt, refl, sym, ap, ◌∙◌, arith, inl, inr}
 use Rattle.std.specs.List.{list_all}
 use Rattle.std.proofs.lemmas.Bool.{and_parts, cases_Bool}
-use Rattle.calendar.specs.ComparisonLaws.{le_from_lt, le_itself, le_le, lt_from_fail, lt_from_pass}
-use Rattle.calendar.specs.SignedLaws.{signed}
+use Rattle.basics.specs.ComparisonLaws.{le_from_lt, le_itself, le_le, lt_from_fail, lt_from_pass}
+use Rattle.basics.specs.SignedLaws.{signed}
 use Rattle.civil_base.specs.Instants.{instant_at}
 use Rattle.civil_base.specs.Ranges.{IsOffset, is_offset}
 use Rattle.zone_spans.specs.Cycle.{entry_on, instant_on}

@@ -20,10 +20,10 @@ use Rattle.std.proofs.lemmas.List.Elements.{filter-append}
 use Rattle.std.proofs.lemmas.List.Folds.{list_any-append}
 use Rattle.std.proofs.lemmas.List.Sorted.{list_any-IsPermutation}
 use Rattle.std.proofs.lemmas.Map.Text.{is_eq-slice_cmp}
-use Rattle.owned.specs.InOrder.{in_order}
-use Rattle.owned.specs.InOrderLaws.{same_in_order, any-in_order, tagged, RisesStrictly, less}
-use Rattle.owned.specs.Keyed.{text_cmp}
-use Rattle.owned.specs.TestLaws.{all_by_any}
+use Rattle.basics.specs.InOrder.{in_order}
+use Rattle.basics.specs.InOrderLaws.{same_in_order, any-in_order, tagged, RisesStrictly, less}
+use Rattle.basics.specs.Keyed.{text_cmp}
+use Rattle.basics.specs.TestLaws.{all_by_any}
 use Rattle.zone_spans.specs.declared.fault.SpanFault.{SpanFault}
 use Rattle.zone_table.specs.declared.table.Table.{Table}
 use Rattle.zone_spans.specs.Schedules.{is_in_offset_range}

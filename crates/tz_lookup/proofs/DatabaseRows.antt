@@ -9,8 +9,8 @@ use Rattle.std.specs.Ordering.{eq_by_cmp, is_eq}
 use Rattle.std.specs.Str.{bytes_eq}
 use Rattle.std.proofs.Math.Bool.{and-false, and-or_distrib_left, and-true}
 use Rattle.std.proofs.lemmas.List.Folds.{list_any-append}
-use Rattle.owned.specs.InOrderLaws.{any-in_order}
-use Rattle.owned.specs.Keyed.{text_cmp}
+use Rattle.basics.specs.InOrderLaws.{any-in_order}
+use Rattle.basics.specs.Keyed.{text_cmp}
 use Rattle.zone_spans.specs.Schedules.{totals_of}
 use Rattle.zone_spans.specs.declared.fault.SpanFault.TheVariants.{MissingUntil, NoStandardSpan}
 use Rattle.zone_spans.specs.declared.span.FixedTimespanSet as spans

@@ -4,7 +4,7 @@ use Rattle.std.proofs.lemmas.Bool.{cases_lt}
 use Rattle.std.proofs.lemmas.Bool.Decides.{nat_tests}
 use Rattle.std.proofs.lemmas.Int.{ints}
 use Rattle.std.proofs.lemmas.List.{get_or_default, get_or_past, length-map}
-use Rattle.calendar.specs.ComparisonLaws.{le_le}
+use Rattle.basics.specs.ComparisonLaws.{le_le}
 use Rattle.zone_spans.specs.Entries.{Entry}
 use Rattle.tz_zone.specs.declared.set.FixedTimespanSet.{FixedTimespanSet}
 use Rattle.tz_zone.specs.Sets.{shift_of, shifts_of, IsBetween, IsNear}

@@ -3,13 +3,13 @@ use Rattle.std.proofs.Common.{◌≡◌, ℕ, zero, suc, ◌+◌, ◌<◌, ◌�
 use Rattle.std.specs.Int.{int_div_euclid}
 use Rattle.std.proofs.lemmas.Bool.{cases_lt}
 use Rattle.std.proofs.lemmas.Int.{ints}
-use Rattle.calendar.specs.Cycles.{cycle_days}
-use Rattle.calendar.specs.DateLaws.{IsYearOf, place_of}
-use Rattle.calendar.specs.Days.{day}
-use Rattle.calendar.specs.MonthLaws.{days_through-two}
-use Rattle.calendar.specs.ComparisonLaws.{le_pass, le_fail, le_le}
-use Rattle.calendar.specs.SignedLaws.{signed}
-use Rattle.calendar.specs.YearLaws.{cycle_days-rise, day-cycle}
+use Rattle.basics.specs.Cycles.{cycle_days}
+use Rattle.basics.specs.DateLaws.{IsYearOf, place_of}
+use Rattle.basics.specs.Days.{day}
+use Rattle.basics.specs.MonthLaws.{days_through-two}
+use Rattle.basics.specs.ComparisonLaws.{le_pass, le_fail, le_le}
+use Rattle.basics.specs.SignedLaws.{signed}
+use Rattle.basics.specs.YearLaws.{cycle_days-rise, day-cycle}
 use Rattle.tz_lookup.specs.Years.{year_second, begun_from, years_begun, HaveBegun, IsWithinYear}
 
 -- the day on which a year begins, by the years before it

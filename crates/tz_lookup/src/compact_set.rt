@@ -14,9 +14,8 @@ ghost use Rattle.zone_spans.specs.Schedules.{instants, total_at};
 ghost use Rattle.zone_spans.specs.declared.span.FixedTimespan.{FixedTimespan};
 ghost use Rattle.tz_lookup.specs.Compact.{set_seen, HaveKinds, StandFor};
 
-use calendar::{date_of, day_number};
+use basics::{date_of, day_number, Items, Text};
 use indexmap::IndexSet;
-use owned::{Items, Text};
 use std::alloc::{AllocError, Global};
 use std::marker::Model;
 use std::sync::ledger::Ledger;

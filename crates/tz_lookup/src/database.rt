@@ -3,16 +3,16 @@ ghost use Rattle.std.specs.Prelude.{◌≡◌, ℕ, List, map as each, filter, r
 ghost use Rattle.std.specs.BTreeSet.{insert_key};
 ghost use Rattle.std.specs.List.{find, list_all};
 ghost use Rattle.std.specs.Str.{bytes_eq};
-ghost use Rattle.owned.specs.InOrder.{in_order as sorted_names};
-ghost use Rattle.owned.specs.InOrderLaws.{RisesStrictly};
-ghost use Rattle.owned.specs.Keyed.{text_cmp};
+ghost use Rattle.basics.specs.InOrder.{in_order as sorted_names};
+ghost use Rattle.basics.specs.InOrderLaws.{RisesStrictly};
+ghost use Rattle.basics.specs.Keyed.{text_cmp};
 ghost use Rattle.zone_table.specs.BoundedTables.{IsBoundedTable};
 ghost use Rattle.tz_zone.specs.Compiles.{compiled_in};
 ghost use Rattle.tz_lookup.specs.Databases.{names_of, resolves, found_in, found_as, first_refused, zone_refusal, IsDatabaseFault, has_part, name_shown};
 ghost use Rattle.tz_zone.specs.Sets.{schedule_of, IsAccepted, IsOrderlyZone};
 ghost use Rattle.tz_zone.specs.Zones.{set_of};
 
-use owned::{Items, Text};
+use basics::{Items, Text};
 use std::alloc::{AllocError, Global};
 use std::cmp::Ordering;
 use std::collections::BTreeSet;

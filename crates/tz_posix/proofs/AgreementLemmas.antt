@@ -1,8 +1,8 @@
 -- A zone of two yearly rules beside the POSIX value that says the same, whichever of its start and its end comes first.
 use Rattle.std.proofs.Common.{◌≡◌, ℕ, ◌+◌, ◌-◌, ◌<◌, inl, inr, ⊎_elim, true, false, cond, ◌&&◌, List, [], ◌∷◌, None, Option, Some, is_some, unwrap_or, Result, Ok, refl, sym, ap, ◌∙◌, subst, arith, ℤ, pos, ◌+ℤ◌, ◌-ℤ◌, ◌*ℤ◌, ◌<ℤ◌, int_eq}
 use Rattle.std.proofs.lemmas.Int.{ints}
-use Rattle.calendar.specs.Days.{IsCountedYear}
-use Rattle.calendar.specs.SignedLaws.{signed}
+use Rattle.basics.specs.Days.{IsCountedYear}
+use Rattle.basics.specs.SignedLaws.{signed}
 use Rattle.zone_values.specs.declared.time.TimeType.TheVariants.{Wall}
 use Rattle.zone_values.specs.declared.year.Year.TheVariants.{Maximum, Number}
 use Rattle.zone_table.specs.Moments.{has_last_year, is_number, moment}

@@ -2,8 +2,8 @@
 use Rattle.std.proofs.Common.{◌≡◌, ⊎_elim, true, false, cond, List, [], ◌∷◌, Option, Some, None, IfSome, Ok, refl, sym, ap, ◌∙◌, subst, arith, ℤ, pos, neg_ℤ, int_eq}
 use Rattle.std.proofs.lemmas.Bool.{and_from}
 use Rattle.std.proofs.lemmas.Int.{ints}
-use Rattle.calendar.specs.ComparisonLaws.{le_pass}
-use Rattle.calendar.specs.SignedLaws.{signed}
+use Rattle.basics.specs.ComparisonLaws.{le_pass}
+use Rattle.basics.specs.SignedLaws.{signed}
 use Rattle.civil_base.specs.Instants.{seconds_of}
 use Rattle.zone_values.specs.declared.day.DaySpec.{DaySpec}
 use Rattle.zone_values.specs.declared.month.Month.{Month}

@@ -1,11 +1,11 @@
 -- Rules whose months lie two or more apart, and neither in January nor in December, start and end far enough apart in all years.
 use Rattle.std.proofs.Common.{◌≡◌, ℕ, suc, ◌+◌, ◌-◌, ◌<◌, ◌≤◌, ◌⊎◌, inl, inr, ⊎_elim, sym, ap, ◌∙◌, subst, arith, ℤ, pos, ◌+ℤ◌, ◌-ℤ◌, ◌*ℤ◌, ◌≤ℤ◌, ◌<ℤ◌, unsigned_abs}
 use Rattle.std.proofs.lemmas.Int.{ints, by_lt_z}
-use Rattle.calendar.specs.DateLaws.{day-into_year, place_of}
-use Rattle.calendar.specs.Days.{day, days_in_year, days_into_year, days_through, IsCountedYear}
-use Rattle.calendar.specs.MonthLaws.{days_in_month-bounds, days_in_month-december, days_in_year-bounds, days_through-all, days_through-rise, days_through-step, days_through-two}
-use Rattle.calendar.specs.SignedLaws.{signed}
-use Rattle.calendar.specs.YearLaws.{cycle_days-suc, day-cycle}
+use Rattle.basics.specs.DateLaws.{day-into_year, place_of}
+use Rattle.basics.specs.Days.{day, days_in_year, days_into_year, days_through, IsCountedYear}
+use Rattle.basics.specs.MonthLaws.{days_in_month-bounds, days_in_month-december, days_in_year-bounds, days_through-all, days_through-rise, days_through-step, days_through-two}
+use Rattle.basics.specs.SignedLaws.{signed}
+use Rattle.basics.specs.YearLaws.{cycle_days-suc, day-cycle}
 use Rattle.zone_values.specs.Days.{named_day}
 use Rattle.zone_values.specs.Months.{month_number}
 use Rattle.zone_values.specs.declared.time.TimeType.TheVariants.{Wall}

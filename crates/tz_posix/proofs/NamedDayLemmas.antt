@@ -2,15 +2,15 @@
 use Rattle.std.proofs.Common.{◌≡◌, ℕ, suc, ◌+◌, ◌-◌, ◌%◌, ◌<◌, ◌≤◌, refl, ap, ◌∙◌, arith, nat_eq, ℤ, pos, ◌+ℤ◌, ◌-ℤ◌, ◌<ℤ◌, sym, unsigned_abs, true, false, not, ◌&&◌}
 use Rattle.std.proofs.lemmas.Bool.{and_from}
 use Rattle.std.proofs.Math.Bool.{and-false}
-use Rattle.calendar.specs.Dates.{last_with}
-use Rattle.calendar.specs.DateLaws.{day-between, day-last_of_year, place_of}
-use Rattle.calendar.specs.Days.{day, days_in_month, IsCountedYear, IsDate}
-use Rattle.calendar.specs.MonthLaws.{days_in_month-bounds, days_through-two}
-use Rattle.calendar.specs.ComparisonLaws.{le_pass, lt_pass}
-use Rattle.calendar.specs.SignedLaws.{signed}
-use Rattle.calendar.specs.WeekdayLaws.{day-from_first, last_with_weekday, weekday_of-small, weekday_in_month}
-use Rattle.calendar.specs.Weekdays.{weekday_of}
-use Rattle.calendar.specs.YearLaws.{cycle_days-suc, day-cycle}
+use Rattle.basics.specs.Dates.{last_with}
+use Rattle.basics.specs.DateLaws.{day-between, day-last_of_year, place_of}
+use Rattle.basics.specs.Days.{day, days_in_month, IsCountedYear, IsDate}
+use Rattle.basics.specs.MonthLaws.{days_in_month-bounds, days_through-two}
+use Rattle.basics.specs.ComparisonLaws.{le_pass, lt_pass}
+use Rattle.basics.specs.SignedLaws.{signed}
+use Rattle.basics.specs.WeekdayLaws.{day-from_first, last_with_weekday, weekday_of-small, weekday_in_month}
+use Rattle.basics.specs.Weekdays.{weekday_of}
+use Rattle.basics.specs.YearLaws.{cycle_days-suc, day-cycle}
 use Rattle.zone_values.specs.Days.{first_from, is_in_year, named_day}
 use Rattle.zone_values.specs.Months.{month_number}
 use Rattle.zone_values.specs.WeekdayLaws.{first_from-is, weekday_number-small}

@@ -1,7 +1,7 @@
 -- Where the start comes first in each year, the zone and the value agree.
 use Rattle.std.proofs.Common.{◌≡◌, ℕ, zero, suc, ◌-◌, ◌<◌, inr, cond, [], ◌∷◌, Ok, refl, sym, ap, ◌∙◌, arith, ℤ, pos, ◌+ℤ◌, ◌<ℤ◌, int_le}
-use Rattle.calendar.specs.ComparisonLaws.{le_from_lt, le_same, lt_same}
-use Rattle.calendar.specs.SignedLaws.{signed}
+use Rattle.basics.specs.ComparisonLaws.{le_from_lt, le_same, lt_same}
+use Rattle.basics.specs.SignedLaws.{signed}
 use Rattle.civil_base.specs.Instants.{seconds_of}
 use Rattle.zone_table.specs.Moments.{moment}
 use Rattle.zone_spans.specs.Compiled.{compiled}

@@ -1,7 +1,7 @@
 -- Offsets in their range are less than 25 hours in size.
 use Rattle.std.proofs.Common.{◌≡◌, ℕ, ◌≤◌, Bool, true, false, cond, nat_le, Some, None, not, refl, arith}
 use Rattle.std.proofs.lemmas.Bool.{and_parts, leb-true}
-use Rattle.calendar.specs.SignedLaws.{signed}
+use Rattle.basics.specs.SignedLaws.{signed}
 use Rattle.civil_base.specs.Offsets.{signed_by}
 use Rattle.tz_posix.specs.Ranges.{is_time, offset_miss}
 use Rattle.tz_posix.specs.Seconds.{time_seconds, offset_seconds, IsWritten}

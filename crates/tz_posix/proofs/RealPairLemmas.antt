@@ -1,10 +1,10 @@
 -- Three pairs of yearly rules of the tz database meet each condition.
 use Rattle.std.proofs.Common.{◌≡◌, ℕ, List, [], ◌∷◌, Option, inl, inr, refl, sym, ap, ◌∙◌, ◌⊎◌, arith, ℤ, pos, neg_ℤ, ◌+ℤ◌, ◌-ℤ◌, ◌*ℤ◌, ◌≤ℤ◌, ◌<ℤ◌}
-use Rattle.text_parts.specs.Numbers.{value_in}
-use Rattle.calendar.specs.Dates.{last_with}
-use Rattle.calendar.specs.Days.{is_leap, days_in_year, days_in_month, days_after_zero, year_start, days_through, days_into_year, day}
-use Rattle.calendar.specs.SignedLaws.{signed}
-use Rattle.calendar.specs.Weekdays.{weekday_of}
+use Rattle.basics.specs.Numbers.{value_in}
+use Rattle.basics.specs.Dates.{last_with}
+use Rattle.basics.specs.Days.{is_leap, days_in_year, days_in_month, days_after_zero, year_start, days_through, days_into_year, day}
+use Rattle.basics.specs.SignedLaws.{signed}
+use Rattle.basics.specs.Weekdays.{weekday_of}
 use Rattle.civil_base.specs.Instants.{seconds_of}
 use Rattle.zone_values.specs.Days.{first_from, named_day}
 use Rattle.zone_values.specs.Months.{month_number}

@@ -1,7 +1,7 @@
 -- Where the end comes first in each year, the zone and the value agree from the first start on.
 use Rattle.std.proofs.Common.{◌≡◌, ℕ, zero, suc, ◌-◌, ◌<◌, inl, true, cond, [], ◌∷◌, Ok, refl, sym, ap, ◌∙◌, arith, ℤ, pos, ◌+ℤ◌, ◌≤ℤ◌, ◌<ℤ◌, int_le}
-use Rattle.calendar.specs.ComparisonLaws.{le_from_lt, le_pass, le_same}
-use Rattle.calendar.specs.SignedLaws.{signed}
+use Rattle.basics.specs.ComparisonLaws.{le_from_lt, le_pass, le_same}
+use Rattle.basics.specs.SignedLaws.{signed}
 use Rattle.civil_base.specs.Instants.{seconds_of}
 use Rattle.zone_table.specs.Moments.{moment}
 use Rattle.zone_spans.specs.Compiled.{compiled}

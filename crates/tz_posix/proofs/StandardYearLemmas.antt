@@ -2,11 +2,11 @@
 use Rattle.std.proofs.Common.{◌≡◌, ℕ, ◌+◌, ◌-◌, ◌<◌, ◌⊎◌, inl, inr, Bool, true, false, cond, ◌&&◌, Some, unwrap_or, refl, ap, ◌∙◌, arith, ℤ, pos, ◌+ℤ◌, ◌-ℤ◌, ◌≤ℤ◌, ◌<ℤ◌, int_le, int_lt, unsigned_abs}
 use Rattle.std.specs.Int.{int_div_euclid}
 use Rattle.std.proofs.lemmas.Int.{by_lt_z}
-use Rattle.calendar.specs.Dates.{year_of}
-use Rattle.calendar.specs.DateLaws.{day-between, day-range, year_of-is}
-use Rattle.calendar.specs.Days.{day, IsCountedYear}
-use Rattle.calendar.specs.ComparisonLaws.{le_pass, le_fail, lt_from_pass, lt_from_fail}
-use Rattle.calendar.specs.SignedLaws.{signed, floored, natural}
+use Rattle.basics.specs.Dates.{year_of}
+use Rattle.basics.specs.DateLaws.{day-between, day-range, year_of-is}
+use Rattle.basics.specs.Days.{day, IsCountedYear}
+use Rattle.basics.specs.ComparisonLaws.{le_pass, le_fail, lt_from_pass, lt_from_fail}
+use Rattle.basics.specs.SignedLaws.{signed, floored, natural}
 use Rattle.zone_values.specs.declared.year.Year.TheVariants.{Maximum, Number}
 use Rattle.zone_table.specs.Moments.{applies_to_year, last_year, is_at_most, is_at_least}
 use Rattle.zone_table.specs.declared.rule.RuleInfo.{RuleInfo}

@@ -2,8 +2,8 @@
 use Rattle.std.proofs.Common.{◌≡◌, ℕ, zero, suc, ◌<◌, ◌≤◌, Bool, true, false, cond, ◌&&◌, List, [], ◌∷◌, ◌++◌, map, reverse, Some, None, ℤ, ◌+ℤ◌, ◌-ℤ◌, ◌<ℤ◌, ◌≤ℤ◌, int_le, refl, sym, ap, ◌∙◌, subst, arith, append-nil}
 use Rattle.std.proofs.lemmas.Int.{ints}
 use Rattle.std.proofs.lemmas.List.{reverse-append, map-append}
-use Rattle.calendar.specs.ComparisonLaws.{lt_fail}
-use Rattle.owned.specs.Sorted.{put_in, stable_sort}
+use Rattle.basics.specs.ComparisonLaws.{lt_fail}
+use Rattle.basics.specs.Sorted.{put_in, stable_sort}
 use Rattle.zone_table.specs.declared.rule.RuleInfo.{RuleInfo}
 use Rattle.zone_spans.specs.Collapse.{is_same_span, is_no_later, kept_with, kept_of, EntryTimesDontFall}
 use Rattle.zone_spans.specs.Entries.{Entry, entry_of, entries_of, entries_of_over, entries_from_over, fixed_span, at_start, is_sooner, raw_entries, sorted_entries, sorted_entries_over, start_entry}

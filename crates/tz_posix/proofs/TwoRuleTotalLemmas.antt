@@ -4,8 +4,8 @@ use Rattle.std.specs.Option.{option_map}
 use Rattle.std.proofs.lemmas.Bool.{and_parts, cases_lt}
 use Rattle.std.proofs.lemmas.Bool.Decides.{Decides-int_eq}
 use Rattle.std.proofs.lemmas.List.{reverse-append}
-use Rattle.owned.specs.Bytes.{are_same_bytes}
-use Rattle.calendar.specs.ComparisonLaws.{le_fail, le_pass, lt_le}
+use Rattle.basics.specs.Bytes.{are_same_bytes}
+use Rattle.basics.specs.ComparisonLaws.{le_fail, le_pass, lt_le}
 use Rattle.civil_base.specs.Instants.{seconds_of}
 use Rattle.zone_table.specs.declared.rule.RuleInfo.{RuleInfo}
 use Rattle.zone_spans.specs.Collapse.{is_same_span, collapsed, kept_of, without_first}

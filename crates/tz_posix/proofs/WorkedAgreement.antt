@@ -1,9 +1,9 @@
 -- The words of the agreement on cases that are known from outside; times are those of `date -u -d`.
 use Rattle.std.proofs.Common.{◌≡◌, refl, arith, [], ◌∷◌, map, None, ℤ, pos, neg_ℤ, negsuc}
-use Rattle.calendar.specs.Dates.{last_with}
-use Rattle.calendar.specs.Days.{is_leap, days_in_year, days_in_month, days_after_zero, year_start, days_through, days_into_year, day}
-use Rattle.calendar.specs.SignedLaws.{signed}
-use Rattle.calendar.specs.Weekdays.{weekday_of}
+use Rattle.basics.specs.Dates.{last_with}
+use Rattle.basics.specs.Days.{is_leap, days_in_year, days_in_month, days_after_zero, year_start, days_through, days_into_year, day}
+use Rattle.basics.specs.SignedLaws.{signed}
+use Rattle.basics.specs.Weekdays.{weekday_of}
 use Rattle.zone_values.specs.Days.{first_from, named_day}
 use Rattle.zone_values.specs.declared.day.DaySpec.TheVariants.{FirstOnOrAfter, Last}
 use Rattle.zone_values.specs.declared.month.Month.TheVariants.{March, April, October, November}

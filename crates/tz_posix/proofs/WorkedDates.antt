@@ -1,10 +1,10 @@
 -- The days that dates name, on days that are known from outside.
 use Rattle.std.proofs.Common.{◌≡◌, refl, arith, ℕ, ◌-◌, [], ◌∷◌, map, Some, None, ℤ, pos}
-use Rattle.calendar.specs.Days.{is_leap, days_in_year, days_in_month, days_after_zero, year_start, days_through, days_into_year, day, IsDate, IsCountedYear}
-use Rattle.calendar.specs.Dates.{last_with}
-use Rattle.calendar.specs.DateLaws.{month_of-day, day_of-day}
-use Rattle.calendar.specs.SignedLaws.{signed}
-use Rattle.calendar.specs.Weekdays.{weekday_of}
+use Rattle.basics.specs.Days.{is_leap, days_in_year, days_in_month, days_after_zero, year_start, days_through, days_into_year, day, IsDate, IsCountedYear}
+use Rattle.basics.specs.Dates.{last_with}
+use Rattle.basics.specs.DateLaws.{month_of-day, day_of-day}
+use Rattle.basics.specs.SignedLaws.{signed}
+use Rattle.basics.specs.Weekdays.{weekday_of}
 use Rattle.tz_posix.specs.Days.{julian_day, nth_weekday, rule_day, day_refusal}
 use Rattle.tz_posix.specs.declared.date.Date.TheVariants.{N, M}
 use Rattle.tz_posix.specs.declared.error.Error.TheVariants.{ComponentRange, DateTooLarge}

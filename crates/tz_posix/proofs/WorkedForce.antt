@@ -3,11 +3,11 @@ use Rattle.std.proofs.Common.{◌≡◌, refl, arith, ◌∙◌, ap, ℕ, Bool, 
 use Rattle.std.proofs.lemmas.Bool.{and_parts, leb-true}
 use Rattle.std.specs.Int.{int_div_euclid}
 use Rattle.std.specs.Prelude.{codes}
-use Rattle.calendar.specs.Dates.{last_with, year_of}
-use Rattle.calendar.specs.DateLaws.{year_of-day}
-use Rattle.calendar.specs.Days.{is_leap, days_in_year, days_in_month, days_after_zero, days_before_zero, year_start, days_through, days_into_year, day, IsCountedYear, IsDate}
-use Rattle.calendar.specs.SignedLaws.{signed}
-use Rattle.calendar.specs.Weekdays.{weekday_of}
+use Rattle.basics.specs.Dates.{last_with, year_of}
+use Rattle.basics.specs.DateLaws.{year_of-day}
+use Rattle.basics.specs.Days.{is_leap, days_in_year, days_in_month, days_after_zero, days_before_zero, year_start, days_through, days_into_year, day, IsCountedYear, IsDate}
+use Rattle.basics.specs.SignedLaws.{signed}
+use Rattle.basics.specs.Weekdays.{weekday_of}
 use Rattle.tz_posix.specs.Days.{nth_weekday, rule_day, day_refusal}
 use Rattle.tz_posix.specs.InForce.{instant_in, is_saving, is_within, is_year, moment_of, moments_in, posix_total, rule_refusal, year_at, yearly_time}
 use Rattle.civil_base.specs.Instants.{seconds_of}

@@ -1,6 +1,6 @@
 -- What texts are read as, by hand. A text spells exactly what it is read as (`entry_found`, `entry_again`), so these rows hold `Spells` too.
 use Rattle.std.proofs.Common.{◌≡◌, refl, ℕ, true, false, [], ◌∷◌, map, replicate, Option, Some, None, codes}
-use Rattle.text_parts.specs.Numbers.{value_in}
+use Rattle.basics.specs.Numbers.{value_in}
 use Rattle.tz_posix.specs.Reading.{number_at, part_at, clock_time_at, sign_at, offset_at, letters_at, enclosed_at, name_at, weekday_at, date_at, moment_at, rule_in, own_offset_at, own_rule_in, dst_in, short_in, expanded_in, entry_in}
 use Rattle.tz_posix.specs.Values.{short, expanded}
 use Rattle.tz_posix.specs.declared.date.Date.TheVariants.{J, M}

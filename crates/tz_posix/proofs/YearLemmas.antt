@@ -2,11 +2,11 @@
 use Rattle.std.proofs.Common.{◌≡◌, ℕ, true, false, refl, ap, arith, ℤ, pos, neg_ℤ, ◌-ℤ◌, ◌≤ℤ◌, ◌<ℤ◌, int_le}
 use Rattle.std.proofs.lemmas.Bool.{and_from}
 use Rattle.std.proofs.lemmas.Int.{ints}
-use Rattle.calendar.specs.Dates.{year_of, month_of, day_of}
-use Rattle.calendar.specs.DateLaws.{last_with-is, day_parts, day-between, year-between}
-use Rattle.calendar.specs.Days.{is_leap, days_in_year, days_in_month, days_after_zero, year_start, days_through, days_into_year, day, IsCountedYear}
-use Rattle.calendar.specs.ComparisonLaws.{le_pass, le_fail}
-use Rattle.calendar.specs.SignedLaws.{signed}
+use Rattle.basics.specs.Dates.{year_of, month_of, day_of}
+use Rattle.basics.specs.DateLaws.{last_with-is, day_parts, day-between, year-between}
+use Rattle.basics.specs.Days.{is_leap, days_in_year, days_in_month, days_after_zero, year_start, days_through, days_into_year, day, IsCountedYear}
+use Rattle.basics.specs.ComparisonLaws.{le_pass, le_fail}
+use Rattle.basics.specs.SignedLaws.{signed}
 use Rattle.civil_base.specs.Ranges.{first_day, last_day, IsDay, IsYear}
 use Rattle.tz_posix.specs.InForce.{is_year}
 use Rattle.civil_base.specs.DayRangeLaws.{day-first, day-last, counted, new_year}

@@ -1,9 +1,9 @@
 -- The days that the dates of rules name, by counting days and weekdays.
 use Rattle.std.specs.Prelude.{ℕ, ◌+◌, ◌-◌, ◌*◌, ◌<◌, ◌≤◌, ◌≡◌, Bool, ◌&&◌, ◌==◌, nat_lt, nat_le, Option, Some, None, if◌then◌else◌, ℤ, pos, ◌+ℤ◌}
 use Rattle.std.specs.Ordering.{int_eq}
-use Rattle.calendar.specs.Dates.{last_with, month_of, day_of}
-use Rattle.calendar.specs.Days.{day, days_in_month, days_in_year}
-use Rattle.calendar.specs.Weekdays.{weekday_of}
+use Rattle.basics.specs.Dates.{last_with, month_of, day_of}
+use Rattle.basics.specs.Days.{day, days_in_month, days_in_year}
+use Rattle.basics.specs.Weekdays.{weekday_of}
 use Rattle.tz_posix.specs.declared.date.Date.{Date}
 use Rattle.tz_posix.specs.declared.date.Date.TheVariants.{J, N, M}
 use Rattle.tz_posix.specs.declared.error.Error.{Error}

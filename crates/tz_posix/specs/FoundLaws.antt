@@ -9,9 +9,9 @@ use Rattle.std.specs.Char.{is_ascii_digit, is_ascii_alphabetic}
 use Rattle.std.specs.List.{prefix_len, list_all}
 use Rattle.std.specs.Option.{option_map_or}
 use Rattle.std.specs.Str.Parse.{digits_value}
-use Rattle.calendar.specs.LogicLaws.{map_some, bind_some}
-use Rattle.text_parts.specs.Marks.{after_mark}
-use Rattle.text_parts.specs.Numbers.{value_in}
+use Rattle.basics.specs.LogicLaws.{map_some, bind_some}
+use Rattle.basics.specs.Marks.{after_mark}
+use Rattle.basics.specs.Numbers.{value_in}
 use Rattle.tz_posix.specs.Marks.{colon, plus_sign, comma, minus_sign, dot, slash, less, greater, letter_J, letter_M}
 use Rattle.tz_posix.specs.Reading.{after_run, number_at, part_at, seconds_at, clock_time_at, offset_at, sign_at, letters_at, enclosed_at, name_at, day_at, weekday_at, date_at, date_time_at, moment_at, rule_in, is_over, own_offset_at, own_rule_in, dst_in, short_in, expanded_in, entry_in, AreRead, Takes, takes}
 use Rattle.tz_posix.specs.Spells.{Optional, absent, present, SpellsNumber, SpellsTime, hours, minutes, seconds, SpellsOffset, bare, plus, minus, is_enclosed, SpellsName, enclosed, letters, SpellsDate, julian, counted, weekday, SpellsMoment, date, timed, SpellsRule, rule, SpellsDst, dst, SpellsIn, TimeRange, short_form, full_form}

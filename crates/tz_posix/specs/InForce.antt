@@ -2,7 +2,7 @@
 use Rattle.std.specs.Prelude.{Bool, ◌&&◌, ◌||◌, [], ◌∷◌, Option, Some, if◌then◌else◌, ℤ, pos, neg_ℤ, ◌+ℤ◌, ◌-ℤ◌, ◌*ℤ◌, int_le, int_lt}
 use Rattle.std.specs.Int.{int_div_euclid}
 use Rattle.std.specs.Option.{option_map_or}
-use Rattle.calendar.specs.Dates.{year_of}
+use Rattle.basics.specs.Dates.{year_of}
 use Rattle.tz_posix.specs.Days.{rule_day, day_refusal}
 use Rattle.tz_posix.specs.Ranges.{first_some}
 use Rattle.tz_posix.specs.Spells.{TimeRange, day_times}

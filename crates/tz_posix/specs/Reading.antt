@@ -4,8 +4,8 @@ use Rattle.std.specs.Char.{is_ascii_digit, is_ascii_alphabetic}
 use Rattle.std.specs.List.{prefix_len}
 use Rattle.std.specs.Option.{option_map_or}
 use Rattle.std.specs.Borrow.{Bor}
-use Rattle.text_parts.specs.Marks.{after_mark}
-use Rattle.text_parts.specs.Numbers.{value_in}
+use Rattle.basics.specs.Marks.{after_mark}
+use Rattle.basics.specs.Numbers.{value_in}
 use Rattle.tz_posix.specs.declared.time.Time.{Time}
 use Rattle.tz_posix.specs.declared.time.Offset.{Offset}
 use Rattle.tz_posix.specs.declared.date.Date.{Date}

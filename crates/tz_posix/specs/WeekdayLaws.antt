@@ -2,10 +2,10 @@
 use Rattle.std.proofs.Common.{◌≡◌, ℕ, ◌+◌, ◌-◌, ◌*◌, ◌%◌, ◌<◌, ◌≤◌, false, inl, inr, refl, arith, IsTrue, ℤ, nat_eq}
 use Rattle.std.proofs.lemmas.Bool.{and_parts, cases_lt, leb-true}
 use Rattle.std.proofs.lemmas.Bool.Decides.{nat_tests}
-use Rattle.calendar.specs.Days.{day, days_in_month, IsCountedYear, IsDate}
-use Rattle.calendar.specs.MonthLaws.{days_in_month-bounds}
-use Rattle.calendar.specs.WeekdayLaws.{last_with_weekday, weekday_of-small}
-use Rattle.calendar.specs.Weekdays.{weekday_of}
+use Rattle.basics.specs.Days.{day, days_in_month, IsCountedYear, IsDate}
+use Rattle.basics.specs.MonthLaws.{days_in_month-bounds}
+use Rattle.basics.specs.WeekdayLaws.{last_with_weekday, weekday_of-small}
+use Rattle.basics.specs.Weekdays.{weekday_of}
 use Rattle.tz_posix.specs.Days.{nth_weekday, IsNth}
 use Rattle.tz_posix.specs.Ranges.{is_from, is_rule_date}
 use Rattle.tz_posix.specs.declared.date.Date.TheVariants.{M}

@@ -16,7 +16,7 @@ use crate::read::times::offset;
 use crate::rule_time::RuleTime;
 use crate::time::{Offset, Time};
 use crate::values::{Dst, Rule, Std, Tz};
-use text_parts::after_mark;
+use basics::after_mark;
 
 /// Whether the text is at its end or at a rule.
 fn is_over(text: &str) -> bool

@@ -2,8 +2,8 @@
 ghost use Rattle.std.specs.Prelude.{◌≡◌, ◌≤◌, ◌<◌, [], ◌∷◌, IsTrue, true, false, IfOk, None, MatchOption, unsigned_abs, pos, ◌+ℤ◌, ◌-ℤ◌, ◌*ℤ◌};
 ghost use Rattle.std.specs.Int.{int_div_euclid};
 ghost use Rattle.std.specs.Result.{result_err};
-ghost use Rattle.calendar.specs.Dates.{year_of};
-ghost use Rattle.calendar.specs.Days.{IsCountedYear};
+ghost use Rattle.basics.specs.Dates.{year_of};
+ghost use Rattle.basics.specs.Days.{IsCountedYear};
 ghost use Rattle.civil_base.specs.Ranges.{far_seconds, IsYear};
 ghost use Rattle.tz_posix.specs.Days.{day_refusal};
 ghost use Rattle.tz_posix.specs.InForce.{instant_in, is_saving as is_saving_at, is_within as is_between, is_year, moment_of, moments_in, rule_refusal, year_at as year_in};
@@ -14,7 +14,7 @@ use crate::error::Error;
 use crate::moments::Moments;
 use crate::rule_time::RuleTime;
 use crate::values::Rule;
-use calendar::date_of;
+use basics::date_of;
 use civil_base::UtcOffset;
 
 const SECONDS_PER_DAY: i64 = 86_400;

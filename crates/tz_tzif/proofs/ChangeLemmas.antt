@@ -3,13 +3,13 @@ use Rattle.std.proofs.Common.{◌≡◌, ◌≤◌, suc, ℤ, pos, neg_ℤ, cond
 use Rattle.std.specs.Prelude.{◌&&◌, ◌||◌}
 use Rattle.std.specs.Int.{int_div_euclid}
 use Rattle.std.proofs.lemmas.Int.{ints}
-use Rattle.calendar.specs.ComparisonLaws.{lt_pass}
-use Rattle.calendar.specs.DateLaws.{IsYearOf, day-last_of_year, day-range, day_parts, place_of, year-between, year_of-is}
-use Rattle.calendar.specs.Dates.{year_of, month_of, day_of}
-use Rattle.calendar.specs.Days.{day, IsCountedYear}
-use Rattle.calendar.specs.MonthLaws.{days_through-two}
-use Rattle.calendar.specs.SignedLaws.{signed}
-use Rattle.calendar.specs.YearLaws.{cycle_days-suc, day-cycle}
+use Rattle.basics.specs.ComparisonLaws.{lt_pass}
+use Rattle.basics.specs.DateLaws.{IsYearOf, day-last_of_year, day-range, day_parts, place_of, year-between, year_of-is}
+use Rattle.basics.specs.Dates.{year_of, month_of, day_of}
+use Rattle.basics.specs.Days.{day, IsCountedYear}
+use Rattle.basics.specs.MonthLaws.{days_through-two}
+use Rattle.basics.specs.SignedLaws.{signed}
+use Rattle.basics.specs.YearLaws.{cycle_days-suc, day-cycle}
 use Rattle.civil_base.specs.DayRangeLaws.{day-first, day-last, counted}
 use Rattle.civil_base.specs.RangeLaws.{offset_greatest, offset_least}
 use Rattle.civil_base.specs.Ranges.{IsOffset, IsYear}

@@ -5,7 +5,7 @@ use Rattle.std.specs.Ordering.{int_eq}
 use Rattle.std.specs.List.{filter}
 use Rattle.std.proofs.lemmas.Bool.{cases_Bool}
 use Rattle.std.proofs.lemmas.Int.{ints}
-use Rattle.calendar.specs.ComparisonLaws.{eq_from_pass, eq_pass}
+use Rattle.basics.specs.ComparisonLaws.{eq_from_pass, eq_pass}
 use Rattle.civil_base.specs.Instants.{instant_at}
 use Rattle.tz_zone.specs.InForce.{AreInstants}
 use Rattle.tz_zone.specs.InstantLaws.{from_reading, reads_back}

@@ -5,7 +5,7 @@ use Rattle.std.specs.List.{filter}
 use Rattle.std.specs.Ordering.{int_eq}
 use Rattle.std.proofs.lemmas.Bool.{cases_Bool}
 use Rattle.std.proofs.lemmas.List.{length-map}
-use Rattle.calendar.specs.ComparisonLaws.{eq_from_pass}
+use Rattle.basics.specs.ComparisonLaws.{eq_from_pass}
 use Rattle.civil_base.specs.DateTimes.{at_offset}
 use Rattle.civil_base.specs.Instants.{instant_at, seconds_of}
 use Rattle.civil_base.specs.Ranges.{IsOffset}

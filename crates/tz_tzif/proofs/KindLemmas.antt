@@ -2,8 +2,8 @@
 use Rattle.std.proofs.Common.{◌≡◌, Bool, true, false, cond, List, [], ◌∷◌, Option, Some, None, ℤ, pos, negsuc, int_le, sym, subst, ⊎_elim, arith}
 use Rattle.std.specs.List.{filter, list_all}
 use Rattle.std.proofs.lemmas.Bool.{and_parts, cases_Bool}
-use Rattle.calendar.specs.SignedLaws.{one_sided, signed}
-use Rattle.calendar.specs.ComparisonLaws.{le_from_pass}
+use Rattle.basics.specs.SignedLaws.{one_sided, signed}
+use Rattle.basics.specs.ComparisonLaws.{le_from_pass}
 use Rattle.civil_base.specs.Ranges.{IsOffset}
 use Rattle.civil_base.specs.RangeLaws.{offset_by_size}
 use Rattle.tz_tzif.specs.FooterForce.{FooterZone, fixed, yearly, held_at, is_footer_saving}

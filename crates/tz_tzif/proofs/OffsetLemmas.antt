@@ -5,7 +5,7 @@ use Rattle.std.specs.List.{filter}
 use Rattle.std.specs.Ordering.{int_eq}
 use Rattle.std.proofs.lemmas.Bool.{cases_Bool}
 use Rattle.std.proofs.lemmas.Int.{ints}
-use Rattle.calendar.specs.ComparisonLaws.{eq_from_pass, lt_from_pass}
+use Rattle.basics.specs.ComparisonLaws.{eq_from_pass, lt_from_pass}
 use Rattle.tz_tzif.specs.FooterForce.{FooterZone, fixed, yearly, held_at, is_footer_saving, standard_total, saving_total}
 use Rattle.tz_zone.specs.RisingLaws.{contains_head, contains_more, cases_more}
 use Rattle.zone_tzif_core.specs.Totals.{last_kind}

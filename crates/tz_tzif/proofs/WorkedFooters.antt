@@ -1,9 +1,9 @@
 -- Footers that spell a value and texts that spell none, what is in range, and what values stand for, by hand.
 use Rattle.std.proofs.Common.{◌≡◌, refl, ℕ, ℤ, pos, neg_ℤ, Bool, true, false, List, [], ◌∷◌, ◌++◌, map, replicate, Option, Some, None, option_and_then, codes}
-use Rattle.text_parts.specs.Numbers.{value_in}
-use Rattle.calendar.specs.Dates.{last_with}
-use Rattle.calendar.specs.Days.{day, days_after_zero, days_in_month, days_in_year, days_into_year, days_through, is_leap, year_start}
-use Rattle.calendar.specs.Weekdays.{weekday_of}
+use Rattle.basics.specs.Numbers.{value_in}
+use Rattle.basics.specs.Dates.{last_with}
+use Rattle.basics.specs.Days.{day, days_after_zero, days_in_month, days_in_year, days_into_year, days_through, is_leap, year_start}
+use Rattle.basics.specs.Weekdays.{weekday_of}
 use Rattle.tz_posix.specs.Days.{nth_weekday, rule_day}
 use Rattle.tz_posix.specs.InForce.{instant_in}
 use Rattle.tz_posix.specs.Ranges.{first_miss, rule_time_miss}

@@ -2,11 +2,11 @@
 use Rattle.std.proofs.Common.{◌≡◌, refl, arith, ◌∙◌, ap, cond, ℕ, ◌&&◌, nat_le, [], ◌∷◌, ◌++◌, map, true, false, ℤ, pos, neg_ℤ, ◌+ℤ◌, Bool, codes}
 use Rattle.std.proofs.lemmas.Bool.{and_parts, leb-true}
 use Rattle.std.specs.Int.{int_div_euclid}
-use Rattle.calendar.specs.Dates.{last_with, year_of}
-use Rattle.calendar.specs.DateLaws.{year_of-day}
-use Rattle.calendar.specs.Days.{is_leap, days_in_year, days_in_month, days_after_zero, year_start, days_through, days_into_year, day, IsCountedYear}
-use Rattle.calendar.specs.SignedLaws.{signed}
-use Rattle.calendar.specs.Weekdays.{weekday_of}
+use Rattle.basics.specs.Dates.{last_with, year_of}
+use Rattle.basics.specs.DateLaws.{year_of-day}
+use Rattle.basics.specs.Days.{is_leap, days_in_year, days_in_month, days_after_zero, year_start, days_through, days_into_year, day, IsCountedYear}
+use Rattle.basics.specs.SignedLaws.{signed}
+use Rattle.basics.specs.Weekdays.{weekday_of}
 use Rattle.tz_posix.specs.Days.{nth_weekday, rule_day}
 use Rattle.tz_posix.specs.InForce.{YearlyTime, instant_in, year_at}
 use Rattle.tz_posix.specs.declared.date.Date.TheVariants.{M, N}

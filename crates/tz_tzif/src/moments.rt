@@ -1,6 +1,6 @@
 //! What the start and the end of daylight saving time in one year say of a second, and the years beside.
 ghost use Rattle.std.specs.Prelude.{◌≡◌, int_lt, ◌<ℤ◌, ◌≤ℤ◌};
-ghost use Rattle.calendar.specs.Days.{IsCountedYear};
+ghost use Rattle.basics.specs.Days.{IsCountedYear};
 ghost use Rattle.tz_tzif.specs.FooterForce.{has_begun as begun_by, is_saved as saved_by, year_after as next_of, year_before as last_of};
 ghost use Rattle.tz_posix.specs.Yearly.{moments_shown};
 

@@ -1,6 +1,6 @@
 //! Daylight saving time by a footer's rule: whether it is in force at a second.
 ghost use Rattle.std.specs.Prelude.{◌≡◌, ◌≤◌, unsigned_abs, ℤ, pos, ◌*ℤ◌, ◌-ℤ◌, ◌≤ℤ◌, ◌<ℤ◌};
-ghost use Rattle.calendar.specs.Days.{IsCountedYear, day as day_at};
+ghost use Rattle.basics.specs.Days.{IsCountedYear, day as day_at};
 ghost use Rattle.civil_base.specs.Ranges.{IsOffset};
 ghost use Rattle.tz_tzif.specs.FooterForce.{is_footer_saving, is_saved_since as since_by, year_before as last_of};
 ghost use Rattle.tz_posix.specs.InForce.{moments_in};

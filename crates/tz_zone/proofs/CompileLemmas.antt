@@ -3,7 +3,7 @@ use Rattle.std.proofs.Common.{◌≡◌, ℕ, zero, suc, ◌<◌, true, false, L
 use Rattle.std.specs.Prelude.{All, Option, Some, Result, Ok}
 use Rattle.std.specs.List.{list_all}
 use Rattle.std.proofs.lemmas.Bool.{and_parts}
-use Rattle.calendar.specs.ComparisonLaws.{le_from_pass, le_itself, le_le}
+use Rattle.basics.specs.ComparisonLaws.{le_from_pass, le_itself, le_le}
 use Rattle.zone_spans.specs.Bounds.{is_small, is_bounded_span, is_bounded_entry, is_bounded}
 use Rattle.zone_spans.specs.Collapse.{EntryTimesDontFall}
 use Rattle.zone_spans.specs.Entries.{Entry}

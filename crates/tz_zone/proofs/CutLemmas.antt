@@ -3,7 +3,7 @@ use Rattle.std.proofs.Common.{◌≡◌, ℕ, zero, suc, ◌+◌, ◌<◌, ◌�
 use Rattle.std.specs.Prelude.{◌&&◌}
 use Rattle.std.specs.declared.cmp.Ordering.TheVariants.{Less, Equal, Greater}
 use Rattle.std.proofs.lemmas.Bool.{cases_lt}
-use Rattle.calendar.specs.ComparisonLaws.{le_le, lt_fail, lt_from_fail, lt_from_pass, lt_le, lt_pass, opposed}
+use Rattle.basics.specs.ComparisonLaws.{le_le, lt_fail, lt_from_fail, lt_from_pass, lt_le, lt_pass, opposed}
 use Rattle.tz_zone.specs.Spans.{Shift, shift_at, TimesDontFall, IsCut}
 use Rattle.tz_zone.specs.Search.{GoesUp}
 use Rattle.tz_zone.specs.Sets.{order_at, IsBetween}

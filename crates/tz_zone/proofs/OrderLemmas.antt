@@ -4,7 +4,7 @@ use Rattle.std.proofs.lemmas.Bool.{cases_lt}
 use Rattle.std.proofs.lemmas.Int.{ints}
 use Rattle.std.specs.declared.cmp.Ordering.{Ordering}
 use Rattle.std.specs.declared.cmp.Ordering.TheVariants.{Less, Equal, Greater}
-use Rattle.calendar.specs.ComparisonLaws.{le_le, lt_le}
+use Rattle.basics.specs.ComparisonLaws.{le_le, lt_le}
 use Rattle.civil_base.specs.Instants.{seconds_of}
 use Rattle.civil_base.specs.RangeLaws.{offset_greatest, offset_least}
 use Rattle.civil_base.specs.Ranges.{IsOffset}

@@ -10,7 +10,7 @@ use Rattle.civil_base.specs.Ranges.{is_offset}
 use Rattle.tz_zone.specs.declared.set.FixedTimespanSet.{FixedTimespanSet}
 use Rattle.std.proofs.Common.{w64, to_z, of_z, SFits}
 use Rattle.std.proofs.lemmas.Int.{to_z-of_z}
-use Rattle.calendar.specs.ComparisonLaws.{le_le, le_from_eq}
+use Rattle.basics.specs.ComparisonLaws.{le_le, le_from_eq}
 use Rattle.civil_base.specs.Ranges.{IsOffset}
 use Rattle.civil_base.specs.RangeLaws.{offset_least, offset_greatest}
 use Rattle.tz_zone.specs.Spans.{Shift, shift_at, local_start}

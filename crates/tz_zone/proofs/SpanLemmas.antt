@@ -2,7 +2,7 @@
 use Rattle.std.proofs.Common.{◌≡◌, ℕ, zero, suc, ◌+◌, ◌<◌, ◌≤◌, List, [], ◌∷◌, length, ℤ, ◌+ℤ◌, ◌-ℤ◌, ◌≤ℤ◌, ◌<ℤ◌, sym, ap, ◌∙◌, ⊎_elim, arith}
 use Rattle.std.proofs.lemmas.Int.{ints, by_lt_z}
 use Rattle.std.proofs.lemmas.Bool.{cases_lt}
-use Rattle.calendar.specs.ComparisonLaws.{lt_le, le_le}
+use Rattle.basics.specs.ComparisonLaws.{lt_le, le_le}
 use Rattle.tz_zone.specs.SpanLaws.{total_from_cut}
 use Rattle.tz_zone.specs.Spans.{total_from, Shift, shift_at, total_of, IsIn, TimesDontFall, IsOrderly, IsCut}
 

@@ -6,7 +6,7 @@ use Rattle.std.specs.List.{filter}
 use Rattle.std.proofs.lemmas.Bool.{cases_Bool}
 use Rattle.std.proofs.lemmas.Int.{ints}
 use Rattle.std.proofs.lemmas.List.{length-map}
-use Rattle.calendar.specs.ComparisonLaws.{eq_from_pass, eq_pass, lt_le, le_from_eq}
+use Rattle.basics.specs.ComparisonLaws.{eq_from_pass, eq_pass, lt_le, le_from_eq}
 use Rattle.civil_base.specs.Ranges.{IsOffset, greatest_offset}
 use Rattle.civil_base.specs.RangeLaws.{offset_least, offset_greatest}
 use Rattle.zone_spans.specs.Schedules.{down_from, offset_count, offsets, instants}

@@ -1,6 +1,6 @@
 -- Totals by spans.
 use Rattle.std.proofs.Common.{◌≡◌, ℕ, zero, suc, cond, List, [], ◌∷◌, filter, ℤ, int_le, refl, ap, ◌∙◌, arith}
-use Rattle.calendar.specs.ComparisonLaws.{le_fail, le_pass}
+use Rattle.basics.specs.ComparisonLaws.{le_fail, le_pass}
 use Rattle.zone_spans.specs.Schedules.{last_total}
 use Rattle.tz_zone.specs.Spans.{Shift, IsCut, total_from, total_of}
 

@@ -10,7 +10,7 @@ ghost use Rattle.tz_zone.specs.Spans.{TimesDontFall};
 
 use crate::lookups::{SpanTable, end_of, start_of};
 use civil_base::GREATEST_OFFSET;
-use owned::{Items, Text};
+use basics::{Items, Text};
 use zone_spans::{FixedTimespan, GREATEST_SECOND};
 
 /// The spans of a zone: what is in force before the first entry, and what from each entry on. Span 0 is the first one.

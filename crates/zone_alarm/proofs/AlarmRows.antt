@@ -2,9 +2,9 @@
 use Rattle.std.proofs.Common.{◌≡◌, ℕ, lit≤, List, [], ◌∷◌, ◌++◌, map, Option, Some, None, option_map, refl, ◌∙◌, arith, ℤ, pos, true, false}
 use Rattle.std.specs.Fmt.{digits}
 use Rattle.std.specs.Prelude.{codes}
-use Rattle.calendar.specs.DateLaws.{year_of-day, month_of-day, day_of-day}
-use Rattle.calendar.specs.Days.{is_leap, days_in_year, days_in_month, days_after_zero, year_start, days_through, days_into_year, day, IsCountedYear, IsDate}
-use Rattle.calendar.specs.SignedLaws.{signed}
+use Rattle.basics.specs.DateLaws.{year_of-day, month_of-day, day_of-day}
+use Rattle.basics.specs.Days.{is_leap, days_in_year, days_in_month, days_after_zero, year_start, days_through, days_into_year, day, IsCountedYear, IsDate}
+use Rattle.basics.specs.SignedLaws.{signed}
 use Rattle.civil_base.specs.Layout.{date_digits, day_part, four_digits, two_digits, year_sign}
 use Rattle.civil_base.specs.LocalTimes.{local_time_in}
 use Rattle.tz_zone.specs.declared.set.FixedTimespanSet.{FixedTimespanSet}

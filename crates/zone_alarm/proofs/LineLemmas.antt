@@ -4,8 +4,8 @@ use Rattle.std.proofs.Math.Seq.{take-append-add}
 use Rattle.std.proofs.lemmas.List.{length-append}
 use Rattle.std.proofs.lemmas.Bool.{and_parts}
 use Rattle.std.proofs.lemmas.Slice.Eq.{bytes_eq-Decides}
-use Rattle.calendar.specs.Dates.{year_of}
-use Rattle.calendar.specs.SignedLaws.{signed}
+use Rattle.basics.specs.Dates.{year_of}
+use Rattle.basics.specs.SignedLaws.{signed}
 use Rattle.civil_base.specs.Clock.{nanos_per_day}
 use Rattle.civil_base.specs.Layout.{day_part, local_text, year_sign}
 use Rattle.civil_base.specs.LayoutLaws.{local_text-sign, unsigned_text, unsigned_text-shape, year_sign-length}

@@ -1,6 +1,6 @@
 -- The line of a day.
 use Rattle.std.specs.Prelude.{ℕ, List, ◌++◌, Option, Some, None, ℤ, codes}
-use Rattle.calendar.specs.Dates.{year_of}
+use Rattle.basics.specs.Dates.{year_of}
 use Rattle.civil_base.specs.Layout.{date_digits, year_sign, zoned_text}
 
 -- the date of a day, as a local text begins with it

@@ -3,8 +3,8 @@ use Rattle.std.proofs.Common.{◌≡◌, ℕ, zero, suc, List, [], ◌∷◌, �
 use Rattle.std.proofs.lemmas.Slice.Eq.{bytes_eq-Decides}
 use Rattle.std.specs.Prelude.{IsSomeAnd, bytes_eq, slice_get}
 use Rattle.std.specs.FinMap.{FinMap, get, insert}
-use Rattle.owned.specs.Keyed.{text_cmp}
-use Rattle.owned.specs.KeyedLaws.{get-inserted}
+use Rattle.basics.specs.Keyed.{text_cmp}
+use Rattle.basics.specs.KeyedLaws.{get-inserted}
 use Rattle.zone_run.specs.Readings.{found_under}
 use Rattle.zone_table.specs.Resolved.{resolved_in}
 use Rattle.zone_table.specs.declared.table.Table.{Table}

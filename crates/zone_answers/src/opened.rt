@@ -12,7 +12,7 @@ ghost use Rattle.zone_answers.specs.Told.{TellsReading};
 
 use crate::error::ReadingError;
 use crate::request::Request;
-use owned::{Items, TextMap};
+use basics::{Items, TextMap};
 use std::alloc::{AllocError, Global};
 use zone_table::Table;
 

@@ -2,13 +2,13 @@
 use Rattle.std.proofs.Common.{◌≡◌, refl, ap, arith, map, lit≤, ℕ, pos, List, [], ◌∷◌, ◌++◌, ◌&&◌, cond, filter, int_le, int_lt, Some, None}
 use Rattle.std.specs.Prelude.{Ok, Err, bytes_eq, codes}
 use Rattle.std.specs.Fmt.{digits}
-use Rattle.calendar.specs.DateLaws.{year_of-day}
-use Rattle.calendar.specs.Dates.{year_of}
-use Rattle.calendar.specs.Days.{is_leap, days_in_year, days_in_month, days_after_zero, days_before_zero, year_start, days_through, days_into_year, day, IsCountedYear}
-use Rattle.calendar.specs.SignedLaws.{signed}
+use Rattle.basics.specs.DateLaws.{year_of-day}
+use Rattle.basics.specs.Dates.{year_of}
+use Rattle.basics.specs.Days.{is_leap, days_in_year, days_in_month, days_after_zero, days_before_zero, year_start, days_through, days_into_year, day, IsCountedYear}
+use Rattle.basics.specs.SignedLaws.{signed}
 use Rattle.civil_base.specs.Instants.{seconds_of}
 use Rattle.civil_base.specs.Layout.{day_part}
-use Rattle.text_parts.specs.Numbers.{value_in}
+use Rattle.basics.specs.Numbers.{value_in}
 use Rattle.zone_command.specs.Answers.{lined, told}
 use Rattle.zone_command.specs.Named.{Found, named_in}
 use Rattle.zone_command.specs.Offsets.{two_in, size_in, offset_in}

@@ -1,6 +1,6 @@
 -- What clocks show at UTC.
 use Rattle.std.proofs.Common.{◌≡◌, arith, pos}
-use Rattle.calendar.specs.SignedLaws.{signed}
+use Rattle.basics.specs.SignedLaws.{signed}
 use Rattle.civil_base.specs.DateTimes.{instant, local_of, offset_of}
 use Rattle.civil_base.specs.declared.offset_date_time.OffsetDateTime.{OffsetDateTime}
 

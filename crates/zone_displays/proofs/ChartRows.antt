@@ -3,7 +3,7 @@ use Rattle.std.proofs.Common.{◌≡◌, refl, map, ℤ, pos, [], ◌∷◌, ◌
 use Rattle.std.specs.Prelude.{codes, neg_ℤ, int_le, int_lt, Ok, Err}
 use Rattle.std.specs.Fmt.{digits}
 use Rattle.std.specs.List.{filter}
-use Rattle.calendar.specs.Days.{day, days_after_zero, days_in_month, days_in_year, days_into_year, days_through, is_leap, year_start}
+use Rattle.basics.specs.Days.{day, days_after_zero, days_in_month, days_in_year, days_into_year, days_through, is_leap, year_start}
 use Rattle.zone_moments.specs.declared.answer_form.AnswerForm.TheVariants.{People}
 use Rattle.zone_replies.specs.Faults.{each_due}
 use Rattle.zone_replies.specs.Fixed.{fixed_view}

@@ -2,7 +2,7 @@
 use Rattle.std.specs.Prelude.{ℕ, ◌+◌, ◌/◌, List, ◌∷◌, map, get_or, ℤ, pos, ◌+ℤ◌, ◌-ℤ◌, ◌*ℤ◌, unsigned_abs}
 use Rattle.std.specs.Int.{int_div_euclid, int_max, int_min}
 use Rattle.std.specs.List.{flat_map, fold}
-use Rattle.calendar.specs.Days.{day}
+use Rattle.basics.specs.Days.{day}
 use Rattle.zone_replies.specs.Skips.{after_of}
 use Rattle.zone_replies.specs.Views.{ZoneView}
 use Rattle.zone_displays.specs.SeenZones.{Named}

@@ -6,7 +6,7 @@ ghost use Rattle.zone_displays.specs.Axes.{changes_in, hour_above, hour_below, h
 ghost use Rattle.zone_displays.specs.SeenZones.{named};
 
 use crate::zone::ChartZone;
-use calendar::day_number;
+use basics::day_number;
 use civil_base::UtcOffset;
 use std::alloc::{AllocError, Global};
 use zone_replies::ReplyZone;

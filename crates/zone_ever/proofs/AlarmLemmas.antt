@@ -4,8 +4,8 @@ use Rattle.std.specs.Prelude.{codes}
 use Rattle.std.specs.List.{range_with_len, slice_get}
 use Rattle.std.specs.declared.alloc.Global.{Global}
 use Rattle.std.proofs.lemmas.Bool.Decides.{nat_tests}
-use Rattle.calendar.specs.ComparisonLaws.{le_from_pass}
-use Rattle.calendar.specs.SignedLaws.{signed}
+use Rattle.basics.specs.ComparisonLaws.{le_from_pass}
+use Rattle.basics.specs.SignedLaws.{signed}
 use Rattle.civil_base.specs.Clock.{nanos_per_day}
 use Rattle.civil_base.specs.Layout.{day_part, time_part}
 use Rattle.civil_base.specs.PartLaws.{time_part-inside}

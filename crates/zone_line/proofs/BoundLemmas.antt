@@ -22,7 +22,7 @@ use Rattle.zone_line.specs.Fields.{to_field, type_field, day_numbered, day_of_mo
 use Rattle.zone_line.specs.Kinds.{LineKind, kind_of}
 use Rattle.zone_line.specs.Kinds as kind
 use Rattle.zone_line.specs.LineValues.{one_off_of, saving_field, until, has_yearless_end, some_end, end_of, info_of, rule_of, value_of_kind, value}
-use Rattle.text_parts.specs.Numbers.{is_numeral, signed_in}
+use Rattle.basics.specs.Numbers.{is_numeral, signed_in}
 use Rattle.zone_line.specs.Digits.{two_digits, digit_of}
 use Rattle.zone_line.specs.Options.{first_some}
 use Rattle.zone_values.specs.Results as results

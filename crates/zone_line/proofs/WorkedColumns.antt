@@ -4,7 +4,7 @@ use Rattle.std.proofs.Common.{◌≡◌, ℕ, List, [], ◌∷◌, map, Option, 
 use Rattle.std.specs.Prelude.{bytes_eq, codes, if◌then◌else◌}
 use Rattle.zone_values.specs.Faults.{refused}
 use Rattle.zone_values.specs.Months.{month_named}
-use Rattle.text_parts.specs.Numbers.{signed_in}
+use Rattle.basics.specs.Numbers.{signed_in}
 use Rattle.zone_values.specs.Seconds.{with_type}
 use Rattle.zone_values.specs.Values.{one_off, multiple, InfoValue, space, zone, continuation, rule, link}
 use Rattle.zone_values.specs.Years.{year_named}

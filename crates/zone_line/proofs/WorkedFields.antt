@@ -3,7 +3,7 @@ use Rattle.std.proofs.Common.{◌≡◌, ℕ, List, [], ◌∷◌, map, true, fa
 use Rattle.std.specs.Prelude.{codes}
 use Rattle.zone_values.specs.Faults.{refused}
 use Rattle.zone_values.specs.Months.{month_named}
-use Rattle.text_parts.specs.Numbers.{signed_in}
+use Rattle.basics.specs.Numbers.{signed_in}
 use Rattle.zone_values.specs.Seconds.{with_type}
 use Rattle.zone_values.specs.Values.{no_saving, multiple}
 use Rattle.zone_values.specs.Weekdays.{weekday_named}

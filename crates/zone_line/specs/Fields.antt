@@ -7,7 +7,7 @@ use Rattle.zone_values.specs.Days.{is_day_of_month}
 use Rattle.zone_values.specs.Faults.{Fault, refused}
 use Rattle.zone_values.specs.declared.fault.FaultKind.TheVariants.{TypeColumnContainedNonHyphen, InvalidDaySpec, InvalidTimeSpecAndType, NonWallClockInTimeSpec}
 use Rattle.zone_values.specs.Results.{◌>>=◌}
-use Rattle.text_parts.specs.Numbers.{is_numeral, signed_in}
+use Rattle.basics.specs.Numbers.{is_numeral, signed_in}
 use Rattle.zone_values.specs.Years.{year_field}
 use Rattle.zone_values.specs.Weekdays.{weekday_field}
 use Rattle.zone_line.specs.Times.{time_of, if_wall}

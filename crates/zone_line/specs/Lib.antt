@@ -5,7 +5,7 @@ pub use Rattle.zone_values.specs.Ends
 pub use Rattle.zone_values.specs.Faults
 pub use Rattle.zone_values.specs.Months
 pub use Rattle.zone_values.specs.Names
-pub use Rattle.text_parts.specs.Numbers
+pub use Rattle.basics.specs.Numbers
 pub use Rattle.zone_values.specs.Results
 pub use Rattle.zone_values.specs.Seconds
 pub use Rattle.zone_values.specs.Values

@@ -4,7 +4,7 @@ use Rattle.std.specs.Char.{is_ascii_digit}
 use Rattle.std.specs.List.{list_all, list_any}
 use Rattle.std.specs.Option.{option_map_or}
 use Rattle.zone_line.specs.Options.{◌>>=◌, first_some}
-use Rattle.text_parts.specs.Numbers.{signed_in}
+use Rattle.basics.specs.Numbers.{signed_in}
 use Rattle.zone_line.specs.Digits.{two_digits}
 use Rattle.zone_line.specs.Clocks.{ClockTexts, clock_in}
 use Rattle.zone_values.specs.Seconds.{with_type}

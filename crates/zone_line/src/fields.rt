@@ -7,7 +7,7 @@ ghost use Rattle.zone_line.specs.Times.{no_time, hours_alone, is_bare, signed, c
 ghost use Rattle.zone_line.specs.Shown.{clock_shown};
 
 use crate::columns::ClockColumns;
-use text_parts::{i8_in, is_numeral};
+use basics::{i8_in, is_numeral};
 use zone_values::{Fault, FaultKind, TimeSpec, TimeSpecAndType, TimeType, Year};
 
 /// The value of one or two ASCII digits.

@@ -19,7 +19,7 @@ use crate::fields::{
 use crate::parser::{LineParser, matcher};
 use regex::Matcher;
 use std::alloc::{AllocError, Global};
-use text_parts::is_numeral;
+use basics::is_numeral;
 use zone_values::{
     ChangeTime, DaySpec, Error, Fault, FaultKind, Line, Link, Month, Rule, Saving, TimeSpec,
     TimeSpecAndType, Weekday, Year, Zone, ZoneInfo, value_or_fault,

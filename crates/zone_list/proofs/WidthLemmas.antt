@@ -5,7 +5,7 @@ use Rattle.std.specs.Int.{is_negative}
 use Rattle.std.specs.Int.Signed.{mag}
 use Rattle.std.proofs.lemmas.Fmt.{IsAscii-signed}
 use Rattle.std.proofs.lemmas.Int.{ints}
-use Rattle.calendar.specs.ComparisonLaws.{lt_fail, lt_pass}
+use Rattle.basics.specs.ComparisonLaws.{lt_fail, lt_pass}
 use Rattle.pad_fmt.specs.Number.{sign_text, signed_width}
 use Rattle.pad_fmt.specs.Options.{default_options}
 use Rattle.pad_fmt.specs.Padding.{padded_width}

@@ -6,10 +6,10 @@ use Rattle.std.proofs.lemmas.Bool.Decides.{nat_tests}
 use Rattle.std.proofs.lemmas.Fmt.{decimal_by_steps}
 use Rattle.std.specs.Char.{is_ascii_digit}
 use Rattle.std.specs.List.{list_all}
-use Rattle.calendar.specs.Days.{day, IsDate}
-use Rattle.calendar.specs.Dates.{year_of, month_of, day_of}
-use Rattle.calendar.specs.MonthLaws.{days_in_month-bounds}
-use Rattle.calendar.specs.SignedLaws.{signed, one_sided, natural}
+use Rattle.basics.specs.Days.{day, IsDate}
+use Rattle.basics.specs.Dates.{year_of, month_of, day_of}
+use Rattle.basics.specs.MonthLaws.{days_in_month-bounds}
+use Rattle.basics.specs.SignedLaws.{signed, one_sided, natural}
 use Rattle.civil_base.specs.Clock.{nanos_per_day, hour_of, minute_of, second_of, nanosecond_of, time_at}
 use Rattle.civil_base.specs.ClockLaws.{clock_parts, time_at-parts}
 use Rattle.civil_base.specs.DayLaws.{date_of-day}

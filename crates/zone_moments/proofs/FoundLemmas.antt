@@ -7,10 +7,10 @@ use Rattle.std.proofs.lemmas.Option.{cond_some, same_Some, none-some}
 use Rattle.std.specs.Char.{is_ascii_digit}
 use Rattle.std.specs.List.{prefix_len}
 use Rattle.std.specs.Option.{option_map_or}
-use Rattle.calendar.specs.Days.{IsDate}
+use Rattle.basics.specs.Days.{IsDate}
 use Rattle.civil_base.specs.Clock.{IsClockTime}
-use Rattle.calendar.specs.LogicLaws.{bind_some}
-use Rattle.text_parts.specs.Marks.{after_mark}
+use Rattle.basics.specs.LogicLaws.{bind_some}
+use Rattle.basics.specs.Marks.{after_mark}
 use Rattle.civil_base.specs.Layout.{two_digits, four_digits}
 use Rattle.civil_base.specs.DigitLaws.{four_digits-halves}
 use Rattle.zone_moments.proofs.NumberLemmas.{run_passes}

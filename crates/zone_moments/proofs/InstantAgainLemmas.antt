@@ -6,8 +6,8 @@ use Rattle.std.proofs.lemmas.Bool.Decides.{nat_tests}
 use Rattle.std.proofs.Math.Nat.{min-eq_left}
 use Rattle.std.specs.Char.{is_ascii_digit}
 use Rattle.std.specs.List.{list_all}
-use Rattle.text_parts.specs.Marks.{after_mark}
-use Rattle.calendar.specs.SignedLaws.{signed}
+use Rattle.basics.specs.Marks.{after_mark}
+use Rattle.basics.specs.SignedLaws.{signed}
 use Rattle.civil_base.specs.Instants.{instant_at}
 use Rattle.civil_base.specs.Layout.{two_digits}
 use Rattle.civil_base.specs.Ranges.{IsInYears}

@@ -8,7 +8,7 @@ use Rattle.std.proofs.lemmas.Option.{same_Some, none-some}
 use Rattle.std.specs.Char.{is_ascii_digit}
 use Rattle.std.specs.List.{prefix_len}
 use Rattle.std.specs.Result.{result_map_both}
-use Rattle.calendar.specs.LogicLaws.{map_some}
+use Rattle.basics.specs.LogicLaws.{map_some}
 use Rattle.civil_base.specs.Instants.{instant_at}
 use Rattle.civil_base.specs.Ranges.{IsInYears, is_in_years}
 use Rattle.zone_moments.proofs.FoundLemmas.{Takes, takes, TakesFront, takes_front, TakesSecond, same_Ok, bind_ok, wanted, chosen, passed, passed_over, marked}

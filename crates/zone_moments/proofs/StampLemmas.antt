@@ -9,14 +9,14 @@ use Rattle.std.proofs.lemmas.Option.{same_Some, none-some}
 use Rattle.std.proofs.Math.Nat.{min-eq_left, le-mul_of_pos_right}
 use Rattle.std.specs.Char.{is_ascii_digit}
 use Rattle.std.specs.List.{prefix_len, list_all}
-use Rattle.calendar.specs.LogicLaws.{map_some, bind_some}
-use Rattle.calendar.specs.SignedLaws.{signed}
+use Rattle.basics.specs.LogicLaws.{map_some, bind_some}
+use Rattle.basics.specs.SignedLaws.{signed}
 use Rattle.civil_base.specs.DateTimes.{instant as instant_of}
 use Rattle.civil_base.specs.Layout.{two_digits}
 use Rattle.civil_base.specs.Ranges.{IsInYears}
 use Rattle.civil_base.specs.RangeLaws.{years_end}
 use Rattle.civil_base.specs.declared.offset_date_time.OffsetDateTime.{OffsetDateTime}
-use Rattle.text_parts.specs.Marks.{after_mark}
+use Rattle.basics.specs.Marks.{after_mark}
 use Rattle.zone_moments.proofs.AgainLemmas.{begins, goes_on, run_again, no_digit}
 use Rattle.zone_moments.proofs.FoundLemmas.{marked, chosen, same_Ok}
 use Rattle.zone_moments.proofs.InstantAgainLemmas as again

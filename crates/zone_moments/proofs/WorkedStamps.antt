@@ -2,7 +2,7 @@
 use Rattle.std.proofs.Common.{◌≡◌, refl, map, ℕ, ℤ, List, Option, [], ◌∷◌, Some, None, pos, neg_ℤ}
 use Rattle.std.specs.Prelude.{codes}
 use Rattle.std.specs.Fmt.{digits}
-use Rattle.calendar.specs.Days.{is_leap, days_in_year, days_in_month, days_after_zero, days_before_zero, year_start, days_through, days_into_year, day}
+use Rattle.basics.specs.Days.{is_leap, days_in_year, days_in_month, days_after_zero, days_before_zero, year_start, days_through, days_into_year, day}
 use Rattle.civil_base.specs.Clock.{time_at}
 use Rattle.zone_moments.specs.Numbers.{moment, seconds_east, counted}
 use Rattle.zone_moments.specs.Pieces.{digit_at, two_at, four_at, date_at, minute_at, second_at, offset_at}

@@ -4,7 +4,7 @@ use Rattle.std.proofs.Common.{List, [], ◌∷◌, ◌++◌, length, take, drop,
 use Rattle.std.proofs.lemmas.Bool.Decides.{nat_tests}
 use Rattle.std.proofs.lemmas.List.{take_at, drop_at, take_more}
 use Rattle.std.specs.List.{list_all}
-use Rattle.calendar.specs.Dates.{year_of}
+use Rattle.basics.specs.Dates.{year_of}
 use Rattle.civil_base.specs.Clock.{nanosecond_of}
 use Rattle.civil_base.specs.Layout.{digit, local_text, time_text, nine_digits, year_sign, date_digits, day_part, time_part}
 use Rattle.civil_base.specs.LayoutLaws.{unsigned_text, local_text-sign, unsigned_text-shape}

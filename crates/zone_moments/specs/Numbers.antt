@@ -1,6 +1,6 @@
 -- What the numbers of a text amount to.
 use Rattle.std.specs.Prelude.{ℕ, ◌+◌, ◌-◌, ◌*◌, ◌^◌, Bool, ◌||◌, ◌==◌, List, [], ◌∷◌, length, ℤ, pos, ◌+ℤ◌, ◌*ℤ◌}
-use Rattle.calendar.specs.Days.{day}
+use Rattle.basics.specs.Days.{day}
 use Rattle.civil_base.specs.Clock.{nanos_per_day, time_at}
 use Rattle.civil_base.specs.Offsets.{signed_by}
 use Rattle.zone_moments.specs.declared.form.WrittenDate.{WrittenDate}

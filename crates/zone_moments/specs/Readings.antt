@@ -5,10 +5,10 @@ use Rattle.std.specs.Char.{is_ascii_digit}
 use Rattle.std.specs.Option.{option_map_or}
 use Rattle.std.specs.Result.{result_map_both}
 use Rattle.std.specs.Borrow.{Bor}
-use Rattle.calendar.specs.Days.{days_in_month}
+use Rattle.basics.specs.Days.{days_in_month}
 use Rattle.civil_base.specs.Instants.{instant_at}
 use Rattle.civil_base.specs.Ranges.{is_in_years}
-use Rattle.text_parts.specs.Marks.{after_mark}
+use Rattle.basics.specs.Marks.{after_mark}
 use Rattle.zone_moments.specs.Numbers.{fraction_of, moment, number_after, seconds_east, counted}
 use Rattle.zone_moments.specs.Pieces.{date_at, separator_at, minute_at, second_at, offset_at, run_of, after_run}
 use Rattle.zone_moments.specs.declared.fault.TextFault.{TextFault}

@@ -2,7 +2,7 @@
 use Rattle.std.specs.Prelude.{◌≡◌, ℕ, ◌<◌, ◌≤◌, true, false, List, [], ◌∷◌, ◌++◌, length, ℤ, pos, Option, Some, None, codes}
 use Rattle.std.specs.Char.{is_ascii_digit}
 use Rattle.std.specs.List.{list_all}
-use Rattle.calendar.specs.Days.{IsDate}
+use Rattle.basics.specs.Days.{IsDate}
 use Rattle.civil_base.specs.Clock.{IsClockTime}
 use Rattle.civil_base.specs.Instants.{instant_at}
 use Rattle.civil_base.specs.Layout.{two_digits, four_digits}

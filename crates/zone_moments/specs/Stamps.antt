@@ -5,7 +5,7 @@ use Rattle.std.specs.Option.{option_map_or}
 use Rattle.std.specs.Result.{result_ok}
 use Rattle.std.specs.Char.{is_ascii_alphabetic, is_ascii_digit}
 use Rattle.civil_base.specs.Ranges.{IsInYears}
-use Rattle.text_parts.specs.Marks.{after_mark}
+use Rattle.basics.specs.Marks.{after_mark}
 use Rattle.zone_moments.specs.Pieces.{run_of, after_run}
 use Rattle.zone_moments.specs.Readings.{count_at, count_in, count_of, in_years, zoned_at, zoned_in}
 use Rattle.zone_moments.specs.Spells.{AreDigits, SpellsInstant}

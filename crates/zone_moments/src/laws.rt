@@ -1,6 +1,6 @@
 //! Laws of the texts.
 ghost use Rattle.std.specs.Prelude.{◌≡◌, ◌%◌, ◌<◌, ◌≤ℤ◌, List, ℕ, ℤ, pos, unsigned_abs, Option};
-ghost use Rattle.calendar.specs.Dates.{year_of};
+ghost use Rattle.basics.specs.Dates.{year_of};
 ghost use Rattle.civil_base.specs.Instants.{instant_at};
 ghost use Rattle.civil_base.specs.Layout.{day_part};
 ghost use Rattle.civil_base.specs.Ranges.{IsInYears};

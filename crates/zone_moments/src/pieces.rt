@@ -2,7 +2,7 @@
 ghost use Rattle.std.specs.Prelude.{◌≡◌, ◌<◌, ◌^◌, option_map, IfSome, min, true};
 ghost use Rattle.std.specs.Char.{is_ascii_digit};
 ghost use Rattle.std.specs.List.{list_all, prefix_len};
-ghost use Rattle.text_parts.specs.Marks.{after_mark};
+ghost use Rattle.basics.specs.Marks.{after_mark};
 ghost use Rattle.zone_moments.specs.Numbers.{is_separator, is_utc, number_after};
 ghost use Rattle.zone_moments.specs.Pieces.{read_as, digit_at, two_at, four_at, two_after, date_at, separator_at, minute_at, second_at, sized_at, offset_at, run_of, after_run};
 

@@ -1,7 +1,7 @@
 //! Dates and times of day that are written and exist.
 ghost use Rattle.std.specs.Prelude.{◌≡◌, ◌<◌, ◌≤◌, ◌^◌, true, Some, None, pos, IfOk, if◌then◌else◌};
 ghost use Rattle.std.specs.Result.{result_map_both};
-ghost use Rattle.calendar.specs.Days.{day};
+ghost use Rattle.basics.specs.Days.{day};
 ghost use Rattle.civil_base.specs.Clock.{time_at};
 ghost use Rattle.civil_base.specs.Instants.{instant_at};
 ghost use Rattle.civil_base.specs.Offsets.{signed_by};

@@ -1,7 +1,7 @@
 //! Times written for people, by RFC 3339 and as seconds.
 ghost use Rattle.std.specs.Prelude.{◌≡◌, ◌++◌, ◌∷◌, [], ◌+◌, ◌*◌, ◌/◌, ◌%◌, ◌<◌, ◌≤◌, length, take, is_ok, ℤ, pos, int_lt, unsigned_abs, if◌then◌else◌};
 ghost use Rattle.civil_base.specs.DateTimes.{instant};
-ghost use Rattle.calendar.specs.Dates.{year_of};
+ghost use Rattle.basics.specs.Dates.{year_of};
 ghost use Rattle.civil_base.specs.Clock.{nanosecond_of};
 ghost use Rattle.civil_base.specs.Ranges.{far_seconds};
 ghost use Rattle.civil_base.specs.Layout.{local_text, nine_digits, year_sign, date_digits, day_part, time_part, digit as digit_of};

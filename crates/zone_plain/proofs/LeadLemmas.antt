@@ -5,8 +5,8 @@ use Rattle.std.specs.Option.{option_or}
 use Rattle.std.specs.FinMap.{FinMap, get, insert}
 use Rattle.std.specs.Cmp.Lexicographic.{bytes_decides}
 use Rattle.std.proofs.lemmas.Option.{none-some, same_Some}
-use Rattle.owned.specs.Keyed.{text_cmp}
-use Rattle.owned.specs.KeyedLaws.{get-inserted}
+use Rattle.basics.specs.Keyed.{text_cmp}
+use Rattle.basics.specs.KeyedLaws.{get-inserted}
 use Rattle.zone_values.specs.Values.{LineValue}
 use Rattle.zone_plain.specs.Declares.{has_zone, target_of}
 use Rattle.zone_plain.specs.Leads.{leads_to, zone_behind}

@@ -5,8 +5,8 @@ use Rattle.std.proofs.lemmas.List.{drop_all, drop_more, length-map}
 use Rattle.std.specs.Prelude.{◌&&◌, flat_map, bytes_eq}
 use Rattle.std.specs.List.{list_all}
 use Rattle.std.specs.FinMap.{FinMap, get}
-use Rattle.owned.specs.Keyed.{text_cmp}
-use Rattle.owned.specs.Listed.{listed}
+use Rattle.basics.specs.Keyed.{text_cmp}
+use Rattle.basics.specs.Listed.{listed}
 use Rattle.zone_plain.specs.Written.{line_text}
 use Rattle.zone_values.specs.Values.{RuleValue, LineValue, space, rule}
 use Rattle.zone_plain.specs.Pairs.{Pair}

@@ -5,8 +5,8 @@ use Rattle.std.specs.Option.{option_or}
 use Rattle.std.specs.FinMap.{FinMap, get, insert, empty, get-empty, contains_key}
 use Rattle.std.specs.Cmp.Lexicographic.{bytes_decides}
 use Rattle.std.proofs.Math.Bool.{or-false, or-true, or_assoc}
-use Rattle.owned.specs.Keyed.{text_cmp}
-use Rattle.owned.specs.KeyedLaws.{get-inserted}
+use Rattle.basics.specs.Keyed.{text_cmp}
+use Rattle.basics.specs.KeyedLaws.{get-inserted}
 use Rattle.zone_values.specs.Values.{LineValue, InfoValue, RuleValue, line_value, space, zone, rule, link}
 use Rattle.zone_values.specs.declared.line.Line.{Line}
 use Rattle.zone_values.specs.declared.line.Line.TheVariants.{Space}

@@ -19,7 +19,7 @@ use Rattle.zone_table.specs.Formats.{is_slash, is_placeholder, has_placeholder, 
 use Rattle.zone_table.specs.declared.zone.Format.TheVariants.{Constant, Alternate, Placeholder}
 use Rattle.zone_plain_base.specs.PlainTexts.{two_digits}
 use Rattle.zone_plain_lines.specs.Columns.{has_byte, is_letter, is_filled, is_format}
-use Rattle.text_parts.specs.Marks.{cut}
+use Rattle.basics.specs.Marks.{cut}
 use Rattle.zone_plain.specs.Abbreviations.{info_in, ruleset_in, own_saving, abbreviation_under, own_abbreviation, named_total, IsNamedUnder}
 use Rattle.zone_plain.specs.Formats.{Around, around, around_z, around_mark}
 use Rattle.zone_plain.specs.Made.{made_info, with_format, with_ruleset, changed_by, changed, name_in, made}

@@ -1,7 +1,7 @@
 -- Where `%z` stands in a format.
 use Rattle.std.specs.Prelude.{ℕ, List, Option, option_map}
 use Rattle.std.specs.Option.{option_and_then}
-use Rattle.text_parts.specs.Marks.{after_mark, cut}
+use Rattle.basics.specs.Marks.{after_mark, cut}
 
 -- what stands before `%z` and what stands after it
 pub record Around : Type 0 where

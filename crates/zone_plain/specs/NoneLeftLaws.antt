@@ -5,7 +5,7 @@ use Rattle.std.specs.List.{position_or_len, before_first, after_first}
 use Rattle.std.specs.Option.{option_map_or, option_and_then}
 use Rattle.std.proofs.lemmas.Bool.{le-ltb, or_parts}
 use Rattle.std.proofs.lemmas.List.Elements.{All-nil, All-cons, All-head, All-tail, All-append}
-use Rattle.text_parts.specs.Marks.{after_mark}
+use Rattle.basics.specs.Marks.{after_mark}
 use Rattle.zone_values.specs.Seconds.{seconds_of}
 use Rattle.zone_values.specs.Values.{SavingValue, multiple, InfoValue, RuleValue, LineValue, zone, continuation, rule}
 use Rattle.zone_plain_lines.specs.Columns.{has_byte}

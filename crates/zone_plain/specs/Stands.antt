@@ -1,7 +1,7 @@
 -- What the code's maps stand for, and what its answers tell.
 use Rattle.std.specs.Prelude.{◌≡◌, ℕ, List, [], ◌∷◌, ◌++◌, Bool, true, false, Option, Some, None, length, map, slice_get, unwrap_or}
 use Rattle.std.specs.FinMap.{FinMap, get, contains_key}
-use Rattle.owned.specs.Keyed.{text_cmp}
+use Rattle.basics.specs.Keyed.{text_cmp}
 use Rattle.zone_values.specs.Values.{LineValue, space, link}
 use Rattle.zone_plain_base.specs.PlainTexts.{plain_text}
 use Rattle.zone_plain.specs.Declares.{has_zone, has_ruleset, target_of}

@@ -1,8 +1,8 @@
 -- What the code's answers tell.
 use Rattle.std.specs.Prelude.{◌≡◌, ℕ, suc, ℤ, List, [], ◌∷◌, ◌++◌, Bool, true, false, ◌&&◌, codes, flat_map, slice_index_or, unwrap_or, bytes_eq, if◌then◌else◌}
 use Rattle.std.specs.FinMap.{FinMap, get, insert}
-use Rattle.owned.specs.Keyed.{text_cmp}
-use Rattle.owned.specs.Listed.{listed}
+use Rattle.basics.specs.Keyed.{text_cmp}
+use Rattle.basics.specs.Listed.{listed}
 use Rattle.zone_values.specs.Values.{LineValue, space, rule}
 use Rattle.zone_plain.specs.Pairs.{Pair, Asked, nothing, total, under, is_among, with_pair, joined_by, asked}
 use Rattle.zone_plain.specs.Written.{Part, line_text, part_text}

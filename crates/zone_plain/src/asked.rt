@@ -11,7 +11,7 @@ ghost use Rattle.std.specs.List.{list_any};
 use indexmap::IndexSet;
 use std::alloc::{AllocError, Global};
 use std::marker::Model;
-use text_parts::{after_mark, cut};
+use basics::{after_mark, cut};
 use zone_line::{Line, Saving, Zone, ZoneInfo};
 
 /// What stands before `%z` and what stands after it.

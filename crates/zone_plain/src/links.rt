@@ -12,7 +12,7 @@ ghost use Rattle.std.specs.FinMap as map;
 ghost use Rattle.zone_values.specs.Values as value;
 ghost use Rattle.zone_values.specs.declared.line.Line.TheVariants as kind;
 
-use owned::{Text, TextMap};
+use basics::{Text, TextMap};
 use std::alloc::{AllocError, Global};
 use zone_line::{Line, LineReader};
 use zone_plain_base::{PlainFault, Refused, fault_at, write_said};

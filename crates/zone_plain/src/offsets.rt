@@ -17,7 +17,7 @@ use crate::asked::{
 };
 use crate::made::{add_rules, add_said, has_text, made_name, offset_text};
 use crate::parts::{Parts, joined, put_in_part};
-use owned::{Items, TextMap};
+use basics::{Items, TextMap};
 use std::alloc::{AllocError, Global};
 use zone_line::{Line, LineReader};
 use zone_plain_base::{PlainFault, mark_of};

@@ -1,8 +1,8 @@
 -- Fields, times, days, columns and whole lines at worked rows.
 use Rattle.std.proofs.Common.{◌≡◌, ℕ, [], ◌∷◌, map, true, false, Some, None, Ok, Err, refl, pos, negsuc, length, List}
 use Rattle.std.specs.Prelude.{codes}
-use Rattle.calendar.specs.Days.{days_in_month, is_leap}
-use Rattle.text_parts.specs.Numbers.{signed_in, value_in}
+use Rattle.basics.specs.Days.{days_in_month, is_leap}
+use Rattle.basics.specs.Numbers.{signed_in, value_in}
 use Rattle.zone_values.specs.Seconds.{with_type}
 use Rattle.zone_values.specs.Values.{no_saving, one_off, multiple, space, zone, continuation, rule, link}
 use Rattle.zone_values.specs.declared.change.ChangeTime.TheVariants.{UntilYear, UntilMonth, UntilDay, UntilTime}

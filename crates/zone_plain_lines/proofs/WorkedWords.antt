@@ -1,7 +1,7 @@
 -- Words and years at worked rows.
 use Rattle.std.proofs.Common.{◌≡◌, ℕ, [], ◌∷◌, map, Some, None, Ok, Err, refl, pos, negsuc, length}
 use Rattle.std.specs.Prelude.{codes}
-use Rattle.text_parts.specs.Numbers.{signed_in}
+use Rattle.basics.specs.Numbers.{signed_in}
 use Rattle.zone_values.specs.declared.month.Month.TheVariants.{January, February, March, April, May, June, July, August, September, October, November, December}
 use Rattle.zone_values.specs.declared.weekday.Weekday.TheVariants.{Sunday, Monday, Tuesday, Wednesday, Thursday, Friday, Saturday}
 use Rattle.zone_values.specs.declared.year.Year.TheVariants.{Minimum, Maximum, Number}

@@ -2,8 +2,8 @@
 use Rattle.std.specs.Prelude.{ℕ, ◌+◌, ◌*◌, ◌/◌, ◌%◌, ◌-◌, ℤ, pos, neg_ℤ, Bool, true, false, ◌&&◌, ◌||◌, not, ◌==◌, List, [], ◌∷◌, length, slice_index, Option, Some, None, option_map, Result, Ok, Err, ok_or, codes, bytes_eq, nat_lt, if◌then◌else◌}
 use Rattle.std.specs.List.{list_all}
 use Rattle.std.specs.Option.{option_map_or}
-use Rattle.text_parts.specs.Marks.{after_mark, before_mark, cut}
-use Rattle.text_parts.specs.Numbers.{is_numeral}
+use Rattle.basics.specs.Marks.{after_mark, before_mark, cut}
+use Rattle.basics.specs.Numbers.{is_numeral}
 use Rattle.zone_values.specs.Seconds.{with_type}
 use Rattle.zone_values.specs.declared.time.TimeSpec.{TimeSpec}
 use Rattle.zone_values.specs.declared.time.TimeSpec.TheVariants.{Hours, HoursMinutes, HoursMinutesSeconds}

@@ -4,9 +4,9 @@ use Rattle.std.specs.Borrow.{Bor}
 use Rattle.std.specs.Char.{is_ascii_digit}
 use Rattle.std.specs.List.{list_any}
 use Rattle.std.specs.Option.{option_map_or}
-use Rattle.text_parts.specs.Marks.{cut}
-use Rattle.text_parts.specs.Numbers.{signed_in}
-use Rattle.text_parts.specs.Paths.{has_parts}
+use Rattle.basics.specs.Marks.{cut}
+use Rattle.basics.specs.Numbers.{signed_in}
+use Rattle.basics.specs.Paths.{has_parts}
 use Rattle.zone_values.specs.Values.{SavingValue, no_saving, one_off, multiple}
 use Rattle.zone_values.specs.declared.year.Year.{Year}
 use Rattle.zone_values.specs.declared.year.Year.TheVariants.{Minimum, Maximum, Number}

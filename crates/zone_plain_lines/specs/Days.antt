@@ -2,8 +2,8 @@
 use Rattle.std.specs.Prelude.{ℕ, ◌==◌, ℤ, pos, Bool, false, ◌&&◌, not, List, Option, Some, None, Result, Ok, Err, ok_or, if◌then◌else◌}
 use Rattle.std.specs.Option.{option_map_or}
 use Rattle.std.specs.Ordering.{int_eq}
-use Rattle.calendar.specs.Days.{days_in_month, is_leap}
-use Rattle.text_parts.specs.Marks.{after_mark, cut}
+use Rattle.basics.specs.Days.{days_in_month, is_leap}
+use Rattle.basics.specs.Marks.{after_mark, cut}
 use Rattle.zone_values.specs.Months.{month_number}
 use Rattle.zone_values.specs.declared.day.DaySpec.{DaySpec}
 use Rattle.zone_values.specs.declared.day.DaySpec.TheVariants.{Ordinal, Last, LastOnOrBefore, FirstOnOrAfter}

@@ -1,6 +1,6 @@
 -- Numbers between two numbers.
 use Rattle.std.specs.Prelude.{ℕ, ◌&&◌, List, Option, Some, None, option_and_then, nat_le, if◌then◌else◌}
-use Rattle.text_parts.specs.Numbers.{is_numeral, value_in}
+use Rattle.basics.specs.Numbers.{is_numeral, value_in}
 
 abbrev pub if_between : ℕ → ℕ → ℕ → Option ℕ
 if_between first last number = if nat_le first number && nat_le number last then Some number else None

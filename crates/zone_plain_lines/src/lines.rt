@@ -9,7 +9,7 @@ use crate::cause::PlainCause;
 use crate::clock::{amount_of, amount_spec, at_of, clock_spec, day_of, if_there, saved};
 use crate::quotes::is_white;
 use crate::words::{LineWord, from_word, line_word, month_of, to_word};
-use text_parts::{cut, has_parts, i64_in};
+use basics::{cut, has_parts, i64_in};
 use zone_values::{
     ChangeTime, DaySpec, Line, Link, Month, Rule, Saving, TimeSpec, TimeSpecAndType, Year, Zone,
     ZoneInfo,

@@ -1,6 +1,6 @@
 -- What clocks show, from the instant and the offset.
 use Rattle.std.proofs.Common.{◌≡◌, arith, ℤ, pos}
-use Rattle.calendar.specs.SignedLaws.{signed}
+use Rattle.basics.specs.SignedLaws.{signed}
 use Rattle.civil_base.specs.DateTimes.{instant, local_of, offset_of}
 use Rattle.civil_base.specs.Instants.{local_at}
 use Rattle.civil_base.specs.declared.offset_date_time.OffsetDateTime.{OffsetDateTime}

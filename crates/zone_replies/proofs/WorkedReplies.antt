@@ -3,10 +3,10 @@ use Rattle.std.proofs.Common.{◌≡◌, refl, ap, ◌∙◌, arith, Bool, true,
 use Rattle.std.specs.Prelude.{codes}
 use Rattle.std.specs.Fmt.{digits}
 use Rattle.std.specs.Ordering.{int_eq}
-use Rattle.calendar.specs.DateLaws.{year_of-day}
-use Rattle.calendar.specs.Dates.{year_of}
-use Rattle.calendar.specs.Days.{is_leap, days_in_year, days_in_month, days_after_zero, days_before_zero, year_start, days_through, days_into_year, day, IsCountedYear}
-use Rattle.calendar.specs.SignedLaws.{signed}
+use Rattle.basics.specs.DateLaws.{year_of-day}
+use Rattle.basics.specs.Dates.{year_of}
+use Rattle.basics.specs.Days.{is_leap, days_in_year, days_in_month, days_after_zero, days_before_zero, year_start, days_through, days_into_year, day, IsCountedYear}
+use Rattle.basics.specs.SignedLaws.{signed}
 use Rattle.civil_base.specs.Instants.{local_at, seconds_of}
 use Rattle.civil_base.specs.Layout.{day_part}
 use Rattle.civil_base.specs.Ranges.{is_in_years}

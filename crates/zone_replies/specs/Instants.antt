@@ -1,6 +1,6 @@
 -- Instants of a zone as they are written.
 use Rattle.std.specs.Prelude.{◌≡◌, Bool, not, List, ℕ, length, ℤ, int_lt, Ok, Err, if◌then◌else◌}
-use Rattle.calendar.specs.Dates.{year_of}
+use Rattle.basics.specs.Dates.{year_of}
 use Rattle.civil_base.specs.Instants.{local_at, seconds_of}
 use Rattle.civil_base.specs.Layout.{day_part}
 use Rattle.civil_base.specs.Ranges.{is_in_years}

@@ -5,8 +5,8 @@ use Rattle.std.specs.declared.alloc.AllocError.{AllocError}
 use Rattle.std.specs.Cmp.Lexicographic.{bytes_decides}
 use Rattle.std.specs.FinMap.{FinMap, contains_key, empty, get, get-empty, insert}
 use Rattle.std.specs.Str.{bytes_eq}
-use Rattle.owned.specs.Keyed.{text_cmp}
-use Rattle.owned.specs.KeyedLaws.{get-inserted}
+use Rattle.basics.specs.Keyed.{text_cmp}
+use Rattle.basics.specs.KeyedLaws.{get-inserted}
 use Rattle.zone_command.specs.Offsets.{offset_in}
 use Rattle.zone_serving.specs.Kept.{is_kept}
 

@@ -1,6 +1,6 @@
 -- By UTC a local time is its instant.
 use Rattle.std.proofs.Common.{◌≡◌, ℤ, pos, ◌-ℤ◌, ◌*ℤ◌, ap, ◌∙◌, arith}
-use Rattle.calendar.specs.SignedLaws.{signed}
+use Rattle.basics.specs.SignedLaws.{signed}
 use Rattle.civil_base.specs.DateTimes.{instant, local_of, offset_of}
 use Rattle.civil_base.specs.Instants.{instant_at}
 use Rattle.civil_base.specs.declared.offset_date_time.OffsetDateTime.{OffsetDateTime}

@@ -5,15 +5,15 @@ use Rattle.std.specs.Fmt.{digits}
 use Rattle.std.specs.Ordering.{int_eq}
 use Rattle.std.specs.Str.{chars, is_utf8}
 use lib.Utf8.{encode}
-use Rattle.calendar.specs.DateLaws.{year_of-day}
-use Rattle.calendar.specs.Dates.{year_of}
-use Rattle.calendar.specs.Days.{is_leap, days_in_year, days_in_month, days_after_zero, days_before_zero, year_start, days_through, days_into_year, day, IsCountedYear}
-use Rattle.calendar.specs.SignedLaws.{signed}
+use Rattle.basics.specs.DateLaws.{year_of-day}
+use Rattle.basics.specs.Dates.{year_of}
+use Rattle.basics.specs.Days.{is_leap, days_in_year, days_in_month, days_after_zero, days_before_zero, year_start, days_through, days_into_year, day, IsCountedYear}
+use Rattle.basics.specs.SignedLaws.{signed}
 use Rattle.civil_base.specs.Clock.{time_at}
 use Rattle.civil_base.specs.Instants.{local_at, seconds_of}
 use Rattle.civil_base.specs.Layout.{day_part, time_part}
 use Rattle.civil_base.specs.Ranges.{is_in_years}
-use Rattle.text_parts.specs.Numbers.{value_in}
+use Rattle.basics.specs.Numbers.{value_in}
 use Rattle.zone_command.specs.Answers.{Answer, told}
 use Rattle.zone_command.specs.Named.{Found}
 use Rattle.zone_command.specs.Offsets.{offset_in, size_in, two_in}

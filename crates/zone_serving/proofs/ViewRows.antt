@@ -3,7 +3,7 @@ use Rattle.std.proofs.Common.{◌≡◌, refl, map, ap, sym, ◌∙◌, inl, inr
 use Rattle.std.proofs.lemmas.List.{map-id}
 use Rattle.std.specs.Prelude.{Result, Ok, Err, codes}
 use Rattle.std.specs.FinMap.{contains_key, get}
-use Rattle.calendar.specs.Days.{days_after_zero, year_start, days_through, days_into_year, day, is_leap, days_in_year, days_in_month}
+use Rattle.basics.specs.Days.{days_after_zero, year_start, days_through, days_into_year, day, is_leap, days_in_year, days_in_month}
 use Rattle.civil_base.specs.Instants.{seconds_of}
 use Rattle.sefunjaro.specs.Changes.{settled_changes, span_before, window}
 use Rattle.sefunjaro.specs.Replies.{span_on}

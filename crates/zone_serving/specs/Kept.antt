@@ -1,7 +1,7 @@
 -- Names whose zones are at hand.
 use Rattle.std.specs.Prelude.{◌≡◌, ℕ, Bool, ◌||◌, List, is_some}
 use Rattle.std.specs.FinMap.{FinMap, contains_key}
-use Rattle.owned.specs.Keyed.{text_cmp}
+use Rattle.basics.specs.Keyed.{text_cmp}
 use Rattle.zone_answers.specs.Found.{found_in_table}
 use Rattle.zone_answers.specs.Opened.{AreOpened, table_of}
 use Rattle.zone_answers.specs.declared.opened.OpenedZone.{Ghosts}

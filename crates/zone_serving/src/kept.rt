@@ -6,7 +6,7 @@ ghost use Rattle.zone_command.specs.Named.{named_in};
 ghost use Rattle.zone_command.specs.Refusals.{IsTold};
 ghost use Rattle.zone_serving.specs.Kept.{is_kept};
 
-use owned::TextMap;
+use basics::TextMap;
 use std::alloc::Global;
 use zone_command::{Refusal, ZoneSource, offset_in, refusal_of};
 

@@ -2,7 +2,7 @@
 use Rattle.std.specs.Prelude.{ℕ, List, map, reverse, Option, if◌then◌else◌}
 use Rattle.std.specs.Result.{result_unwrap_or}
 use Rattle.std.specs.Str.{is_utf8}
-use Rattle.owned.specs.Listed.{listed}
+use Rattle.basics.specs.Listed.{listed}
 use Rattle.zone_line.specs.LineValues.{value}
 use Rattle.zone_values.specs.Values.{LineValue, space}
 use Rattle.zone_table.specs.Joined.{rules_of}

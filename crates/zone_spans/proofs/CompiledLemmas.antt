@@ -3,9 +3,9 @@ use Rattle.std.proofs.Common.{◌≡◌, ℕ, Bool, true, false, not, ◌&&◌, 
 use Rattle.std.proofs.lemmas.List.Sums.{AllPass-from_list_all}
 use Rattle.std.specs.Cmp.{IsStrictWeakOrder}
 use Rattle.std.specs.List.{list_all, list_any}
-use Rattle.owned.specs.Sorted.{put_in, stable_sort}
-use Rattle.owned.specs.SortedLaws.{Rises, Rises-stable_sort}
-use Rattle.owned.specs.InOrderLaws.{or_turned}
+use Rattle.basics.specs.Sorted.{put_in, stable_sort}
+use Rattle.basics.specs.SortedLaws.{Rises, Rises-stable_sort}
+use Rattle.basics.specs.InOrderLaws.{or_turned}
 use Rattle.zone_table.specs.declared.zone.ZoneInfo.{ZoneInfo}
 use Rattle.zone_spans.specs.declared.fault.SpanFault.{SpanFault}
 use Rattle.zone_spans.specs.declared.fault.SpanFault.TheVariants.{UnknownRuleset, MissingUntil, YearRange, RuleYears, DayRange, NoStandardSpan, NoMemory}
@@ -18,7 +18,7 @@ use Rattle.zone_spans.specs.Entries.{Entry, first_span, fixed_span, is_sooner, i
 use Rattle.zone_spans.specs.Faults.{begins_ruled, entry_test, first_met, is_unknown, leaves_year_over, line_fault, line_tests, schedule_fault_over}
 use Rattle.zone_spans.specs.Lines.{Line, Rulesets, is_ruled, zone_lines}
 use Rattle.zone_spans.proofs.BoundLemmas.{first, second}
-use Rattle.calendar.specs.ComparisonLaws.{lt_from_fail}
+use Rattle.basics.specs.ComparisonLaws.{lt_from_fail}
 use Rattle.zone_spans.proofs.FiringLemmas.{int_lt_chain, int_lt_one_way}
 use Rattle.zone_spans.proofs.SoundLemmas.{neither_left, neither_right, none_at}
 

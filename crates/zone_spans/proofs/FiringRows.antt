@@ -1,8 +1,8 @@
 -- The firings of lines and what they list, at worked rows. Times are those of `date -u -d`.
 use Rattle.std.specs.Prelude.{◌≡◌, ℕ, List, [], ◌∷◌, map, Some, None, ℤ, pos, negsuc, codes, refl}
-use Rattle.calendar.specs.Days.{days_after_zero, year_start, days_through, days_into_year, day, is_leap, days_in_year, days_in_month}
-use Rattle.calendar.specs.Dates.{last_with}
-use Rattle.calendar.specs.Weekdays.{weekday_of}
+use Rattle.basics.specs.Days.{days_after_zero, year_start, days_through, days_into_year, day, is_leap, days_in_year, days_in_month}
+use Rattle.basics.specs.Dates.{last_with}
+use Rattle.basics.specs.Weekdays.{weekday_of}
 use Rattle.zone_values.specs.Days.{named_day, first_from}
 use Rattle.zone_values.specs.declared.change.ChangeTime.TheVariants.{UntilYear, UntilDay, UntilTime}
 use Rattle.zone_values.specs.declared.day.DaySpec.{DaySpec}

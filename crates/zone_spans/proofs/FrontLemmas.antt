@@ -5,8 +5,8 @@ use Rattle.std.proofs.lemmas.List.{length-map}
 use Rattle.std.proofs.lemmas.Bool.Decides.{nat_tests}
 use Rattle.std.specs.Cmp.{IsStrictWeakOrder}
 use Rattle.std.specs.List.{AllByRecursion}
-use Rattle.owned.specs.Sorted.{stable_sort}
-use Rattle.calendar.specs.LogicLaws.{every_weaker}
+use Rattle.basics.specs.Sorted.{stable_sort}
+use Rattle.basics.specs.LogicLaws.{every_weaker}
 use Rattle.zone_values.specs.declared.time.TimeType.{TimeType}
 use Rattle.zone_values.specs.declared.time.TimeType.TheVariants.{Wall, Standard, UTC}
 use Rattle.zone_table.specs.declared.rule.RuleInfo.{RuleInfo}

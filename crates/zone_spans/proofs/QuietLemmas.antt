@@ -3,7 +3,7 @@ use Rattle.std.proofs.Common.{◌≡◌, ℕ, zero, suc, ◌+◌, ◌<◌, Bool,
 use Rattle.std.proofs.lemmas.List.{take_more}
 use Rattle.std.proofs.lemmas.List.Folds.{list_any-append}
 use Rattle.std.specs.List.{list_any}
-use Rattle.calendar.specs.ComparisonLaws.{le_fail}
+use Rattle.basics.specs.ComparisonLaws.{le_fail}
 use Rattle.zone_values.specs.Days.{is_in_year, named_day}
 use Rattle.zone_values.specs.declared.change.ChangeTime.{ChangeTime}
 use Rattle.zone_values.specs.declared.year.Year.TheVariants.{Number}

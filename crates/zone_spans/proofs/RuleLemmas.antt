@@ -3,13 +3,13 @@ use Rattle.std.proofs.Common.{◌≡◌, ℕ, List, [], ◌∷◌, true, Option,
 use Rattle.std.proofs.lemmas.Bool.{and_parts}
 use Rattle.std.proofs.lemmas.Slice.Eq.{bytes_eq-Decides}
 use lib.Pointwise.{pointwise}
-use Rattle.calendar.specs.LogicLaws.{no_case}
-use Rattle.calendar.specs.ComparisonLaws.{eq_from_pass}
+use Rattle.basics.specs.LogicLaws.{no_case}
+use Rattle.basics.specs.ComparisonLaws.{eq_from_pass}
 use Rattle.zone_values.specs.SameLaws.{clock_is, year_is, month_is, day_is}
 use Rattle.zone_values.specs.declared.year.Year.{Year}
 use Rattle.std.specs.contracts.prelude.OptionPartialEq.TheImpl as of_option
-use Rattle.owned.specs.contracts.map.Text as text_type
-use Rattle.owned.specs.contracts.map.TextPartialEq.TheImpl as of_text
+use Rattle.basics.specs.contracts.map.Text as text_type
+use Rattle.basics.specs.contracts.map.TextPartialEq.TheImpl as of_text
 use Rattle.zone_values.specs.contracts.year.Year as year_type
 use Rattle.zone_values.specs.contracts.day.DaySpecPartialEq.TheImpl as of_day
 use Rattle.zone_values.specs.contracts.month.MonthPartialEq.TheImpl as of_month

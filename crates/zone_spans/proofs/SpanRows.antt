@@ -1,9 +1,9 @@
 -- The entries of zones, the collapse and the faults, at worked rows.
 use Rattle.std.specs.Prelude.{◌≡◌, ℕ, List, [], ◌∷◌, map, Option, Some, None, Result, Ok, Err, ℤ, pos, negsuc, codes, true, false, refl}
 use Rattle.std.specs.Ordering.{int_eq}
-use Rattle.calendar.specs.Days.{days_after_zero, year_start, days_through, days_into_year, day, is_leap, days_in_year, days_in_month}
-use Rattle.calendar.specs.Dates.{last_with}
-use Rattle.calendar.specs.Weekdays.{weekday_of}
+use Rattle.basics.specs.Days.{days_after_zero, year_start, days_through, days_into_year, day, is_leap, days_in_year, days_in_month}
+use Rattle.basics.specs.Dates.{last_with}
+use Rattle.basics.specs.Weekdays.{weekday_of}
 use Rattle.zone_values.specs.Days.{named_day, first_from, is_in_year}
 use Rattle.zone_values.specs.declared.change.ChangeTime.{ChangeTime}
 use Rattle.zone_values.specs.declared.change.ChangeTime.TheVariants.{UntilYear, UntilDay, UntilTime}

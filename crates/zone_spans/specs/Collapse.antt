@@ -1,7 +1,7 @@
 -- The collapse of entries, and its law.
 use Rattle.std.specs.Prelude.{Bool, ◌&&◌, List, [], ◌∷◌, reverse, ◌+ℤ◌, ◌<ℤ◌, ◌≤ℤ◌, int_le, if◌then◌else◌}
 use Rattle.std.specs.Ordering.{int_eq}
-use Rattle.owned.specs.Bytes.{are_same_bytes}
+use Rattle.basics.specs.Bytes.{are_same_bytes}
 use Rattle.zone_spans.specs.declared.span.FixedTimespan.{FixedTimespan}
 use Rattle.zone_spans.specs.Entries.{Entry, total}
 

@@ -2,7 +2,7 @@
 use Rattle.std.specs.Prelude.{ℕ, Bool, List, [], ◌∷◌, ◌++◌, map, find, Option, Some, None, option_map, ℤ, pos, ◌+ℤ◌, int_lt, if◌then◌else◌}
 use Rattle.std.specs.Ordering.{int_eq}
 use Rattle.zone_table.specs.Formats.{abbreviation}
-use Rattle.owned.specs.Sorted.{stable_sort}
+use Rattle.basics.specs.Sorted.{stable_sort}
 use Rattle.zone_spans.specs.Windows.{line_end}
 use Rattle.zone_spans.specs.Lines.{Line, is_ruled, fixed_saving}
 use Rattle.zone_spans.specs.Firings.{Firing, line_firings_over}

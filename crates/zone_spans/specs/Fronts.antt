@@ -1,6 +1,6 @@
 -- Rules in three fronts, one for each mark, each in order of local second, and where those tie of place.
 use Rattle.std.specs.Prelude.{Bool, true, false, not, ◌&&◌, ◌||◌, List, [], ◌∷◌, ◌++◌, filter, cond, Option, Some, None, ℤ, int_lt, nat_lt}
-use Rattle.owned.specs.Sorted.{stable_sort}
+use Rattle.basics.specs.Sorted.{stable_sort}
 use Rattle.zone_values.specs.declared.time.TimeType.{TimeType}
 use Rattle.zone_values.specs.declared.time.TimeType.TheVariants.{Wall, Standard, UTC}
 use Rattle.zone_values.specs.declared.change.ChangeTime.{ChangeTime}

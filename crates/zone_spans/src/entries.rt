@@ -2,7 +2,7 @@
 ghost use Rattle.std.specs.Prelude.{◌≡◌, ◌≤◌, ◌++◌, List, All, IfOk, IfSome, IsTrue, Some, pos, filter, find, int_lt, length, map, None, option_map, take, reverse};
 ghost use Rattle.std.specs.List.{list_all, position_or_len};
 ghost use Rattle.std.specs.Option.{option_map_or, option_copied};
-ghost use Rattle.owned.specs.Sorted.{stable_sort};
+ghost use Rattle.basics.specs.Sorted.{stable_sort};
 ghost use Rattle.zone_values.specs.Bounds.{are_small_seconds};
 ghost use Rattle.zone_table.specs.Formats.{abbreviation};
 ghost use Rattle.zone_spans.specs.Bounds.{IsSoundOver, is_bounded_entry, is_bounded_firing, is_bounded_line, is_bounded_span, is_end, is_small, is_start};
@@ -19,7 +19,7 @@ use crate::kept::Expander;
 use crate::span::FixedTimespan;
 use crate::transitions::Line;
 use crate::year::line_end;
-use owned::{Items, Text};
+use basics::{Items, Text};
 use std::alloc::{AllocError, Global};
 
 /// Entries in order of time, or on the way there: a time in seconds from 1970-01-01 00:00 UTC, and what is in force from

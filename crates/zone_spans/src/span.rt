@@ -7,7 +7,7 @@ ghost use Rattle.zone_spans.specs.Collapse.{is_same_span, is_no_later, kept_of, 
 ghost use Rattle.zone_spans.specs.Places.{IsRespanned, IsMoved, IsStep};
 
 use crate::entries::Entries;
-use owned::{Items, Text};
+use basics::{Items, Text};
 use std::alloc::{AllocError, Global};
 
 /// 2^40 seconds: the furthest time of an entry from 1970-01-01 00:00 UTC, before it and after, and the greatest size of an

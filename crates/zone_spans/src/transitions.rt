@@ -21,7 +21,7 @@ use crate::fault::{SpanFault, line_fault};
 use crate::goes_on::goes_on;
 use crate::span::{FixedTimespanSet, collapse};
 use crate::year::MOST_YEARS;
-use owned::Items;
+use basics::Items;
 use std::alloc::Global;
 use std::marker::Model;
 use zone_table::{RuleInfo, Saving, Table, ZoneInfo};

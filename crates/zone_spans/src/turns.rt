@@ -3,7 +3,7 @@ ghost use Rattle.std.specs.Prelude.{◌≡◌, ◌++◌, ◌∷◌, [], ◌&&◌
 ghost use Rattle.std.specs.List.{list_all};
 ghost use Rattle.std.specs.Option.{option_map_or};
 ghost use Rattle.std.specs.Ordering.{int_eq};
-ghost use Rattle.owned.specs.Sorted.{stable_sort};
+ghost use Rattle.basics.specs.Sorted.{stable_sort};
 ghost use Rattle.zone_spans.specs.Bounds.{IsSmallEntry, IsSound, IsSoundOver, is_bounded_entry, is_bounded_firing};
 ghost use Rattle.zone_spans.specs.Collapse.{kept_of};
 ghost use Rattle.zone_spans.specs.Cycle.{seconds_on};
@@ -20,7 +20,7 @@ use crate::kept::Expander;
 use crate::span::{FixedTimespan, is_no_later, is_same_span, keep_kept};
 use crate::transitions::Line;
 use crate::year::MOST_YEARS;
-use owned::Items;
+use basics::Items;
 use std::alloc::{AllocError, Global};
 
 /// The seconds of 400 years.

@@ -5,7 +5,7 @@ use Rattle.std.specs.List.{list_all, AllPass}
 use Rattle.std.proofs.lemmas.List.{reverse-append}
 use Rattle.std.proofs.lemmas.List.Folds.{list_all-append}
 use Rattle.std.proofs.lemmas.List.Sums.{list_all-from_AllPass}
-use Rattle.owned.specs.Listed.{listed}
+use Rattle.basics.specs.Listed.{listed}
 use Rattle.zone_values.specs.Bounds.{is_bounded_line}
 use Rattle.zone_values.specs.Values.{LineValue, space, zone, continuation, rule, link}
 use Rattle.std.proofs.lemmas.Bool.{and_from, and_parts}

@@ -13,9 +13,9 @@ use Rattle.std.proofs.lemmas.List.Filters.{dedup_is}
 use Rattle.std.proofs.lemmas.List.Kept.{IsStrictlySortedBy-dedup}
 use Rattle.std.proofs.lemmas.List.Sorted.{list_any-IsPermutation}
 use Rattle.std.proofs.lemmas.Map.Text.{is_eq-slice_cmp}
-use Rattle.owned.specs.InOrder.{in_order}
-use Rattle.owned.specs.Keyed.{text_cmp}
-use Rattle.owned.specs.InOrderLaws.{in_order_is, or_twice, rises-viewed, sorted_from_rises}
+use Rattle.basics.specs.InOrder.{in_order}
+use Rattle.basics.specs.Keyed.{text_cmp}
+use Rattle.basics.specs.InOrderLaws.{in_order_is, or_twice, rises-viewed, sorted_from_rises}
 use Rattle.zone_table.specs.contracts.structure.ChildOrd.TheImpl as child_order
 use Rattle.zone_table.specs.contracts.structure.ChildPartialEq.TheImpl as child_equality
 use Rattle.zone_table.specs.declared.structure.Child as code

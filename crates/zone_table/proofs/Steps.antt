@@ -4,9 +4,9 @@ use Rattle.std.proofs.lemmas.List.{reverse-append}
 use Rattle.std.specs.Str.{bytes_eq}
 use Rattle.std.specs.Option.{option_or, option_map_or}
 use Rattle.std.specs.FinMap.{FinMap, get, insert}
-use Rattle.owned.specs.Keyed.{text_cmp}
-use Rattle.owned.specs.Listed.{listed}
-use Rattle.owned.specs.KeyedLaws.{appended, get-inserted}
+use Rattle.basics.specs.Keyed.{text_cmp}
+use Rattle.basics.specs.Listed.{listed}
+use Rattle.basics.specs.KeyedLaws.{appended, get-inserted}
 use Rattle.zone_values.specs.declared.line.Saving as code
 use Rattle.zone_values.specs.declared.line.Saving.TheVariants as code_saving
 use Rattle.zone_values.specs.Values.{saving_value, LineValue, zone, continuation, rule, link, InfoValue, RuleValue, SavingValue, no_saving, one_off, multiple}

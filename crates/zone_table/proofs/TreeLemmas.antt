@@ -20,10 +20,10 @@ use Rattle.std.proofs.lemmas.Map.Text.{is_eq-slice_cmp}
 use Rattle.std.proofs.Math.Bool.{or_assoc}
 use Rattle.std.proofs.Math.Numerals.{add-one}
 use Rattle.std.proofs.Math.Seq.{get_or-append_seam}
-use Rattle.calendar.specs.LogicLaws.{every_weaker}
-use Rattle.owned.specs.InOrder.{in_order}
-use Rattle.owned.specs.Keyed.{text_cmp}
-use Rattle.owned.specs.InOrderLaws.{in_order_is, same_in_order, sorted_in_order, any-in_order, below-in_order, or_twice}
+use Rattle.basics.specs.LogicLaws.{every_weaker}
+use Rattle.basics.specs.InOrder.{in_order}
+use Rattle.basics.specs.Keyed.{text_cmp}
+use Rattle.basics.specs.InOrderLaws.{in_order_is, same_in_order, sorted_in_order, any-in_order, below-in_order, or_twice}
 use Rattle.zone_table.specs.NameTree.{ChildValue, submodule, time_zone, child_cmp, EntryValue, children_in, children_of, tree_of}
 use Rattle.zone_table.specs.Shown.{child_value}
 use Rattle.zone_table.specs.Placed.{placed_cmp, placed_value}

@@ -1,6 +1,6 @@
 -- Tables whose numbers are small.
 use Rattle.std.specs.List.{list_all}
-use Rattle.owned.specs.Keyed.{EachPasses}
+use Rattle.basics.specs.Keyed.{EachPasses}
 use Rattle.zone_table.specs.Bounds.{is_bounded_rule, is_bounded_info}
 use Rattle.zone_table.specs.declared.table.Table.{Table}
 

@@ -3,7 +3,7 @@ use Rattle.std.specs.Prelude.{ℕ, List}
 use Rattle.std.specs.declared.cmp.Ordering.{Ordering}
 use Rattle.std.specs.Borrow.{Bor}
 use Rattle.std.specs.Ordering.{ordering_then}
-use Rattle.owned.specs.Keyed.{text_cmp}
+use Rattle.basics.specs.Keyed.{text_cmp}
 use Rattle.zone_table.specs.NameTree.{ChildValue, child_cmp}
 use Rattle.zone_table.specs.Shown.{child_value}
 use Rattle.zone_table.specs.declared.structure.Child.{Child}

@@ -2,7 +2,7 @@
 use Rattle.std.specs.Prelude.{◌≡◌, ℕ, List, Option, option_and_then}
 use Rattle.std.specs.Option.{option_or}
 use Rattle.std.specs.FinMap.{get}
-use Rattle.owned.specs.Listed.{listed}
+use Rattle.basics.specs.Listed.{listed}
 use Rattle.zone_values.specs.Values.{LineValue}
 use Rattle.zone_table.specs.Joined.{zone_of, link_of}
 use Rattle.zone_table.specs.Tables.{IsTableOfLatest}

@@ -1,7 +1,7 @@
 -- The table of a list of values.
 use Rattle.std.specs.Prelude.{◌≡◌, ℕ, List, reverse}
 use Rattle.std.specs.FinMap.{get}
-use Rattle.owned.specs.Listed.{listed}
+use Rattle.basics.specs.Listed.{listed}
 use Rattle.zone_values.specs.Values.{LineValue}
 use Rattle.zone_table.specs.Joined.{rules_of, zone_of, link_of}
 use Rattle.zone_table.specs.declared.table.Table.{Table}

@@ -6,7 +6,7 @@ ghost use Rattle.zone_values.specs.Values.{rule_value};
 ghost use Rattle.zone_table.specs.Moments.{is_number, has_last_year, has_years, is_at_most, is_at_least, applies_to_year, moment, instant_of};
 ghost use Rattle.zone_table.specs.Owned.{owned_rule};
 
-use owned::Text;
+use basics::Text;
 use std::alloc::{AllocError, Global};
 use zone_values::{DaySpec, Month, TimeType, Year};
 

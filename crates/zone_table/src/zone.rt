@@ -4,7 +4,7 @@ ghost use Rattle.zone_values.specs.Values.{info_value, saving_value};
 ghost use Rattle.zone_table.specs.Owned.{owned_info, owned_saving};
 ghost use Rattle.zone_table.specs.Formats.{format_of, has_placeholder, filled, abbreviation, is_constant, constant_text};
 
-use owned::Text;
+use basics::Text;
 use std::alloc::{AllocError, Global};
 use zone_values::ChangeTime;
 

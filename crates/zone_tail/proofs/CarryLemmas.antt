@@ -6,7 +6,7 @@ use Rattle.tz_posix.specs.Days.{day_refusal}
 use Rattle.zone_tail.specs.Rules.{IsNearYear, date_of, IsReach, rule_total}
 use Rattle.zone_tail.specs.declared.rule.Change.{Change}
 use Rattle.std.proofs.lemmas.Bool.{and_from}
-use Rattle.calendar.specs.ComparisonLaws.{le_pass}
+use Rattle.basics.specs.ComparisonLaws.{le_pass}
 use Rattle.civil_base.specs.Instants.{seconds_of}
 use Rattle.tz_zone.specs.Sets.{schedule_of, shifts_of}
 use Rattle.tz_zone.specs.Spans.{Shift}

@@ -5,13 +5,13 @@ use Rattle.std.proofs.lemmas.Bool.{cases_lt}
 use Rattle.std.proofs.lemmas.Bool.Decides.{nat_tests}
 use Rattle.std.proofs.lemmas.List.{length-map}
 use Rattle.std.proofs.lemmas.List.Elements.{All-append, All-cons, All-map, All-nil, All-weaker}
-use Rattle.calendar.specs.Dates.{last_with, year_of, month_of, day_of}
-use Rattle.calendar.specs.DateLaws.{day_parts, year-between}
-use Rattle.calendar.specs.Days.{day, days_in_month, is_leap, days_in_year, days_after_zero, year_start, days_through, days_into_year, IsCountedYear, IsDate}
-use Rattle.calendar.specs.MonthLaws.{days_in_month-bounds}
-use Rattle.calendar.specs.SignedLaws.{signed, floored}
-use Rattle.calendar.specs.WeekdayLaws.{day-from_first, last_with_weekday, weekday_in_month, weekday_of-small}
-use Rattle.calendar.specs.Weekdays.{weekday_of}
+use Rattle.basics.specs.Dates.{last_with, year_of, month_of, day_of}
+use Rattle.basics.specs.DateLaws.{day_parts, year-between}
+use Rattle.basics.specs.Days.{day, days_in_month, is_leap, days_in_year, days_after_zero, year_start, days_through, days_into_year, IsCountedYear, IsDate}
+use Rattle.basics.specs.MonthLaws.{days_in_month-bounds}
+use Rattle.basics.specs.SignedLaws.{signed, floored}
+use Rattle.basics.specs.WeekdayLaws.{day-from_first, last_with_weekday, weekday_in_month, weekday_of-small}
+use Rattle.basics.specs.Weekdays.{weekday_of}
 use Rattle.tz_posix.specs.Days.{nth_weekday, rule_day}
 use Rattle.tz_posix.specs.InForce.{instant_in}
 use Rattle.tz_posix.specs.Ranges.{is_rule_date}

@@ -1,7 +1,7 @@
 -- The form of the last year, by what is found of its entries.
 use Rattle.std.proofs.Common.{◌≡◌, ℕ, suc, ◌<◌, Bool, true, false, cond, List, [], ◌∷◌, ℤ, pos, ◌-ℤ◌, int_lt, inl, inr, refl, sym, ap, ◌∙◌, subst, arith}
 use Rattle.std.proofs.lemmas.Int.{ints}
-use Rattle.calendar.specs.ComparisonLaws.{lt_from_pass, lt_pass}
+use Rattle.basics.specs.ComparisonLaws.{lt_from_pass, lt_pass}
 use Rattle.zone_spans.specs.Entries.{Entry}
 use Rattle.zone_spans.specs.declared.span.FixedTimespan.{FixedTimespan}
 use Rattle.tz_zone.specs.Sets.{shifts_of, span_in}

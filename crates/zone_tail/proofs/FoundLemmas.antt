@@ -4,8 +4,8 @@ use Rattle.std.specs.Int.{int_max}
 use Rattle.std.proofs.lemmas.Bool.{and_from, and_parts, cases_lt, lt-ltb}
 use Rattle.std.proofs.lemmas.Bool.Decides.{nat_tests}
 use Rattle.std.proofs.lemmas.Int.{ints, by_lt_z}
-use Rattle.calendar.specs.ComparisonLaws.{le_from_pass, le_pass, lt_from_fail, lt_from_pass, eq_from_pass, eq_pass}
-use Rattle.calendar.specs.SignedLaws.{natural, signed}
+use Rattle.basics.specs.ComparisonLaws.{le_from_pass, le_pass, lt_from_fail, lt_from_pass, eq_from_pass, eq_pass}
+use Rattle.basics.specs.SignedLaws.{natural, signed}
 use Rattle.zone_spans.specs.Schedules.{Schedule}
 use Rattle.tz_zone.specs.Sets.{IsAccepted, schedule_of, shifts_of}
 use Rattle.tz_zone.specs.Spans.{TimesDontFall, shift_at, total_from}

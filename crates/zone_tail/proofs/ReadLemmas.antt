@@ -11,9 +11,9 @@ use Rattle.std.proofs.lemmas.Fmt.{decimal_is_IsNumeral, digits_decimal}
 use Rattle.std.proofs.lemmas.Int.{ints}
 use Rattle.std.proofs.lemmas.List.{append-nil, append_assoc}
 use Rattle.std.proofs.lemmas.List.Folds.{list_all-append}
-use Rattle.text_parts.specs.NumberLaws.{digits}
-use Rattle.calendar.specs.ComparisonLaws.{lt_from_fail, lt_from_pass}
-use Rattle.calendar.specs.SignedLaws.{signed, one_sided}
+use Rattle.basics.specs.NumberLaws.{digits}
+use Rattle.basics.specs.ComparisonLaws.{lt_from_fail, lt_from_pass}
+use Rattle.basics.specs.SignedLaws.{signed, one_sided}
 use Rattle.civil_base.specs.Offsets.{signed_by}
 use Rattle.tz_zone.specs.declared.set.FixedTimespanSet.{FixedTimespanSet}
 use Rattle.tz_posix.specs.InForce.{yearly_time}

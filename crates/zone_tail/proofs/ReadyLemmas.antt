@@ -5,7 +5,7 @@ use Rattle.std.proofs.lemmas.Int.{ints}
 use Rattle.std.proofs.lemmas.Bool.{and_parts}
 use Rattle.std.proofs.lemmas.List.{length-append, length-map}
 use Rattle.std.proofs.lemmas.List.Elements.{All-append, All-cons, All-get_or, All-map, All-nil, All-tail, All-weaker}
-use Rattle.calendar.specs.ComparisonLaws.{eq_from_pass, le_le, le_same, lt_from_fail, lt_from_pass, lt_le}
+use Rattle.basics.specs.ComparisonLaws.{eq_from_pass, le_le, le_same, lt_from_fail, lt_from_pass, lt_le}
 use Rattle.civil_base.specs.Ranges.{is_offset, IsOffset}
 use Rattle.civil_base.specs.RangeLaws.{offset_greatest, offset_least}
 use Rattle.zone_spans.specs.Entries.{Entry, total}

@@ -3,12 +3,12 @@ use Rattle.std.proofs.Common.{◌≡◌, ℕ, zero, suc, ◌+◌, ◌-◌, ◌*�
 use Rattle.std.specs.List.{list_all}
 use Rattle.std.proofs.lemmas.Bool.{and_parts, cases_lt}
 use Rattle.std.proofs.lemmas.Int.{ints}
-use Rattle.calendar.specs.ComparisonLaws.{le_fail, le_from_pass, le_pass}
-use Rattle.calendar.specs.DateLaws.{day-into_year}
-use Rattle.calendar.specs.Days.{day, days_in_month, IsCountedYear}
-use Rattle.calendar.specs.MonthLaws.{days_through-rise, days_through-two}
-use Rattle.calendar.specs.SignedLaws.{signed}
-use Rattle.calendar.specs.WeekdayLaws.{day-from_first}
+use Rattle.basics.specs.ComparisonLaws.{le_fail, le_from_pass, le_pass}
+use Rattle.basics.specs.DateLaws.{day-into_year}
+use Rattle.basics.specs.Days.{day, days_in_month, IsCountedYear}
+use Rattle.basics.specs.MonthLaws.{days_through-rise, days_through-two}
+use Rattle.basics.specs.SignedLaws.{signed}
+use Rattle.basics.specs.WeekdayLaws.{day-from_first}
 use Rattle.zone_spans.specs.Entries.{Entry}
 use Rattle.tz_posix.specs.DayLaws.{day-2100, days_into_year-is}
 use Rattle.tz_posix.specs.Days.{nth_weekday, rule_day}

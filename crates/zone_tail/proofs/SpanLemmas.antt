@@ -1,6 +1,6 @@
 -- Totals by spans.
 use Rattle.std.proofs.Common.{◌≡◌, ℕ, zero, suc, ◌<◌, ◌≤◌, List, [], ◌∷◌, length, map, ℤ, ◌≤ℤ◌, refl, ap, arith}
-use Rattle.calendar.specs.ComparisonLaws.{le_le, lt_le}
+use Rattle.basics.specs.ComparisonLaws.{le_le, lt_le}
 use Rattle.zone_spans.specs.Entries.{Entry}
 use Rattle.tz_zone.specs.Sets.{shift_of}
 use Rattle.tz_zone.specs.SpanLaws.{total_from_cut}

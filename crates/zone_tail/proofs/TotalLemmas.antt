@@ -2,9 +2,9 @@
 use Rattle.std.proofs.Common.{◌≡◌, ℕ, zero, suc, ◌<◌, ◌≤◌, ◌⊎◌, Bool, true, false, cond, List, [], ◌∷◌, length, ℤ, pos, ◌-ℤ◌, ◌≤ℤ◌, ◌<ℤ◌, refl, sym, ap, ◌∙◌, subst, ⊎_elim, arith}
 use Rattle.std.proofs.lemmas.Int.{ints, by_lt_z}
 use Rattle.std.proofs.lemmas.Bool.{cases_lt}
-use Rattle.calendar.specs.Days.{day, is_leap, days_in_year, days_in_month, days_after_zero, year_start, days_through, days_into_year}
-use Rattle.calendar.specs.ComparisonLaws.{le_le, lt_le}
-use Rattle.calendar.specs.SignedLaws.{signed}
+use Rattle.basics.specs.Days.{day, is_leap, days_in_year, days_in_month, days_after_zero, year_start, days_through, days_into_year}
+use Rattle.basics.specs.ComparisonLaws.{le_le, lt_le}
+use Rattle.basics.specs.SignedLaws.{signed}
 use Rattle.zone_spans.specs.Schedules.{Schedule}
 use Rattle.tz_zone.specs.Spans.{IsCut, Shift, TimesDontFall, shift_at, total_of, total_from}
 use Rattle.tz_posix.specs.DayLaws.{day-2100}

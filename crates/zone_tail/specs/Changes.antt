@@ -1,9 +1,9 @@
 -- The changes of each year that come at a local second of one year.
 use Rattle.std.specs.Prelude.{ℕ, ◌+◌, ◌/◌, List, [], ◌∷◌, ◌++◌, map, nat_le, nat_lt, Option, Some, None, if◌then◌else◌, ℤ, pos, unsigned_abs}
 use Rattle.std.specs.Int.{int_div_euclid, int_rem_euclid}
-use Rattle.calendar.specs.Dates.{day_of, month_of, year_of}
-use Rattle.calendar.specs.Days.{days_in_month}
-use Rattle.calendar.specs.Weekdays.{weekday_of}
+use Rattle.basics.specs.Dates.{day_of, month_of, year_of}
+use Rattle.basics.specs.Days.{days_in_month}
+use Rattle.basics.specs.Weekdays.{weekday_of}
 use Rattle.zone_tail.specs.declared.changes.Changes.{Changes}
 use Rattle.zone_tail.specs.declared.rule.Change.{Change}
 

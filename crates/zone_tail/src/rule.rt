@@ -1,6 +1,6 @@
 //! Rules of each year: the totals that they give, and when these may change.
 ghost use Rattle.std.specs.Prelude.{◌≡◌, ℤ, pos, ◌-ℤ◌, ◌*ℤ◌, ◌≤ℤ◌, ◌<ℤ◌};
-ghost use Rattle.calendar.specs.Days.{day as day_at, IsCountedYear};
+ghost use Rattle.basics.specs.Days.{day as day_at, IsCountedYear};
 ghost use Rattle.civil_base.specs.Ranges.{IsOffset};
 ghost use Rattle.tz_posix.specs.InForce.{moments_in, year_at};
 ghost use Rattle.tz_posix.specs.Yearly.{moments_shown, time_shown};

@@ -15,7 +15,7 @@ use Rattle.zone_source.specs.Faults.{SourceFault, source_fault}
 use Rattle.zone_source.specs.FaultLines.{source_line}
 use Rattle.zone_source.specs.Releases.{release_of}
 use Rattle.zone_source.specs.Responses.{IsLineOf}
-use Rattle.ustar.specs.Entries.{Content, of_file, of_link}
+use Rattle.zone_tree.specs.ArchiveEntries.{Content, of_file, of_link}
 use Rattle.zone_source.specs.Told.{TellsOfSource, told_by_source}
 use Rattle.zone_source.specs.Zones.{values_of}
 use Rattle.zone_source.specs.declared.error.SourceError.{SourceError}

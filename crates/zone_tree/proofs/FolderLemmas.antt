@@ -14,8 +14,8 @@ use Rattle.std.proofs.Math.Bool.{or-false}
 use Rattle.std.proofs.lemmas.Bool.{and_parts, false_from_ne_true}
 use Rattle.std.proofs.lemmas.Bool.Decides.{Decides-eqb}
 use Rattle.std.proofs.lemmas.Slice.Eq.{starts_is}
-use Rattle.owned.specs.InOrderLaws.{RisesStrictly, tagged, less}
-use Rattle.owned.specs.Keyed.{text_cmp}
+use Rattle.basics.specs.InOrderLaws.{RisesStrictly, tagged, less}
+use Rattle.basics.specs.Keyed.{text_cmp}
 use Rattle.std.specs.FinMap.{nat_cmp-IsAntisymmetric}
 
 abbrev pub begins : List ℕ → List ℕ → Bool

@@ -11,15 +11,15 @@ use Rattle.std.proofs.lemmas.List.Folds.{list_any-append}
 use Rattle.std.proofs.lemmas.Map.Text.{is_eq-slice_cmp}
 use Rattle.std.proofs.lemmas.Slice.Eq.{bytes_eq-Decides}
 use Rattle.std.proofs.Math.Bool.{and-false}
-use Rattle.owned.specs.InOrderLaws.{any-in_order}
-use Rattle.owned.specs.Keyed.{text_cmp}
-use Rattle.owned.specs.KeyedLaws.{tied_texts}
-use Rattle.owned.specs.Listed.{listed}
-use Rattle.ustar.specs.Archives.{archive, IsArchive}
-use Rattle.ustar.specs.Entries.{Content, of_file, of_link, EntryValue, entry}
-use Rattle.ustar.specs.Names.{entry_fault}
-use Rattle.ustar.specs.declared.entry.EntryFault.{EntryFault}
-use Rattle.ustar.specs.declared.entry.EntryFault.TheVariants as fault_is
+use Rattle.basics.specs.InOrderLaws.{any-in_order}
+use Rattle.basics.specs.Keyed.{text_cmp}
+use Rattle.basics.specs.KeyedLaws.{tied_texts}
+use Rattle.basics.specs.Listed.{listed}
+use Rattle.zone_tree.specs.Archives.{archive, IsArchive}
+use Rattle.zone_tree.specs.ArchiveEntries.{Content, of_file, of_link, EntryValue, entry}
+use Rattle.zone_tree.specs.ArchiveNames.{entry_fault}
+use Rattle.zone_tree.specs.declared.archive.entry.EntryFault.{EntryFault}
+use Rattle.zone_tree.specs.declared.archive.entry.EntryFault.TheVariants as fault_is
 use Rattle.zone_source.specs.Releases.{release_of}
 use Rattle.zone_run.specs.Causes.{named}
 use Rattle.zone_source.specs.Faults.{SourceFault, source_fault}

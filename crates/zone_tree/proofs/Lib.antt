@@ -8,3 +8,10 @@ pub mod EverLemmas
 mod WorkedEntries
 mod WorkedLines
 mod WorkedNames
+pub mod FieldLemmas
+pub mod SaidLemmas
+pub mod PlaceLemmas
+pub mod TextLemmas
+pub mod ReadLemmas
+pub mod HeaderRows
+pub mod NameRows

@@ -8,14 +8,14 @@ use Rattle.std.specs.Ordering.{eq_by_cmp}
 use Rattle.std.proofs.lemmas.Cmp.{nat_list_cmp_total}
 use Rattle.std.proofs.lemmas.List.Folds.{list_any-append}
 use Rattle.std.proofs.lemmas.Bool.{or_right, or_left}
-use Rattle.owned.specs.InOrder.{in_order}
-use Rattle.owned.specs.InOrderLaws.{any-in_order, rises-keys, rises_from_sorted, same_rising, sorted_in_order}
-use Rattle.owned.specs.Keyed.{text_cmp}
-use Rattle.owned.specs.KeyedLaws.{tied_texts}
-use Rattle.owned.specs.Listed.{listed}
+use Rattle.basics.specs.InOrder.{in_order}
+use Rattle.basics.specs.InOrderLaws.{any-in_order, rises-keys, rises_from_sorted, same_rising, sorted_in_order}
+use Rattle.basics.specs.Keyed.{text_cmp}
+use Rattle.basics.specs.KeyedLaws.{tied_texts}
+use Rattle.basics.specs.Listed.{listed}
 use Rattle.tz_zone.specs.Compiles.{compiled_in}
 use Rattle.zone_source.specs.Zones.{rules_in, values_of, zone_in}
-use Rattle.ustar.specs.Entries.{Content}
+use Rattle.zone_tree.specs.ArchiveEntries.{Content}
 use Rattle.zone_spans.specs.Compiled.{compiled}
 use Rattle.zone_table.specs.Joined.{zone_of, link_of, is_owner}
 use Rattle.zone_table.specs.Owned.{owned_info}

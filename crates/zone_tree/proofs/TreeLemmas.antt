@@ -5,8 +5,8 @@ use Rattle.std.specs.List.{flat_map}
 use Rattle.std.proofs.lemmas.List.{drop_all}
 use Rattle.tz_lookup.specs.Databases.{name_shown}
 use Rattle.std.proofs.lemmas.Grind.{flat_map-append}
-use Rattle.ustar.specs.Archives.{archive, end_bytes, entry_bytes}
-use Rattle.ustar.specs.Entries.{EntryValue}
+use Rattle.zone_tree.specs.Archives.{archive, end_bytes, entry_bytes}
+use Rattle.zone_tree.specs.ArchiveEntries.{EntryValue}
 use Rattle.tz_zone.specs.Compiles.{compiled_in}
 use Rattle.zone_source.specs.Releases.{release_of}
 use Rattle.zone_source.specs.Faults.{SourceFault, source_fault}

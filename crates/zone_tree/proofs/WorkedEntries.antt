@@ -2,10 +2,10 @@
 use Rattle.std.proofs.Common.{◌≡◌, ℕ, List, [], ◌∷◌, map, replicate, codes, Bool, true, false, Some, None, Ok, Err, refl, ap, ℤ, pos, negsuc}
 use Rattle.std.specs.Prelude.{bytes_eq, if◌then◌else◌, ◌||◌}
 use Rattle.tz_zone.specs.declared.set.FixedTimespanSet.{FixedTimespanSet}
-use Rattle.ustar.specs.Archives.{archive}
-use Rattle.ustar.specs.Entries.{of_file, of_link, entry}
-use Rattle.ustar.specs.Names.{cut, entry_fault, is_path}
-use Rattle.ustar.specs.declared.entry.EntryFault.TheVariants as entry_fault_is
+use Rattle.zone_tree.specs.Archives.{archive}
+use Rattle.zone_tree.specs.ArchiveEntries.{of_file, of_link, entry}
+use Rattle.zone_tree.specs.ArchiveNames.{cut, entry_fault, is_path}
+use Rattle.zone_tree.specs.declared.archive.entry.EntryFault.TheVariants as entry_fault_is
 use Rattle.zone_spans.specs.Schedules.{totals_of}
 use Rattle.zone_spans.specs.declared.fault.SpanFault.TheVariants as span
 use Rattle.zone_spans.specs.declared.span.FixedTimespanSet as spans

@@ -2,8 +2,8 @@
 use Rattle.std.proofs.Common.{◌≡◌, ℕ, List, [], ◌∷◌, map, reverse, codes, Some, None, true, false, refl}
 use Rattle.std.specs.List.{flat_map}
 use Rattle.std.proofs.lemmas.Cmp.{nat_list_cmp_total}
-use Rattle.owned.specs.InOrderLaws.{RisesStrictly, sorted_in_order, rises_from_sorted}
-use Rattle.owned.specs.Keyed.{text_cmp}
+use Rattle.basics.specs.InOrderLaws.{RisesStrictly, sorted_in_order, rises_from_sorted}
+use Rattle.basics.specs.Keyed.{text_cmp}
 use Rattle.zone_source.specs.Zones.{values_of}
 use Rattle.zone_values.specs.Values.{InfoValue, RuleValue, space, zone, continuation, rule, link}
 use Rattle.zone_tree.specs.Names.{zone_names, link_names, names_by, finds_in, given_names, archive_names}

@@ -2,7 +2,7 @@
 use Rattle.std.specs.Prelude.{ℕ, List, ◌||◌, nat_eq, Bool, true, false, Option, Some, None, Result, Ok, Err, if◌then◌else◌}
 use Rattle.std.specs.List.{list_any}
 use Rattle.tz_zone.specs.declared.set.FixedTimespanSet.{FixedTimespanSet}
-use Rattle.ustar.specs.Entries.{Content, of_file}
+use Rattle.zone_tree.specs.ArchiveEntries.{Content, of_file}
 use Rattle.zone_run.specs.Causes.{named}
 use Rattle.zone_spans.specs.Schedules.{totals_of, is_in_offset_range}
 use Rattle.zone_spans.specs.declared.fault.SpanFault.{SpanFault}

@@ -1,10 +1,10 @@
 -- The entry of a name.
 use Rattle.std.specs.Prelude.{ℕ, List, [], ◌∷◌, ◌++◌, ◌||◌, nat_eq, Bool, Option, Some, None, Result, Ok, Err, codes, if◌then◌else◌}
 use Rattle.std.specs.List.{list_any, starts_with}
-use Rattle.ustar.specs.Entries.{Content, of_file, of_link, EntryValue, entry}
-use Rattle.ustar.specs.Names.{entry_fault}
-use Rattle.ustar.specs.declared.entry.EntryFault.{EntryFault}
-use Rattle.ustar.specs.declared.entry.EntryFault.TheVariants as entry_fault
+use Rattle.zone_tree.specs.ArchiveEntries.{Content, of_file, of_link, EntryValue, entry}
+use Rattle.zone_tree.specs.ArchiveNames.{entry_fault}
+use Rattle.zone_tree.specs.declared.archive.entry.EntryFault.{EntryFault}
+use Rattle.zone_tree.specs.declared.archive.entry.EntryFault.TheVariants as entry_fault
 use Rattle.zone_tree.specs.Names.{Finds}
 use Rattle.zone_tree.specs.declared.refusal.Why.{Why}
 use Rattle.zone_tree.specs.declared.refusal.Why.TheVariants.{Link, Name, Size}

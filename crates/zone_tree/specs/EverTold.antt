@@ -1,6 +1,6 @@
 -- What the code's answers tell of archives for ever.
 use Rattle.std.specs.Prelude.{◌≡◌, ℕ, List, Option, Some, None, Err, MatchOption, Result, Ok}
-use Rattle.ustar.specs.Entries.{Content, of_file}
+use Rattle.zone_tree.specs.ArchiveEntries.{Content, of_file}
 use Rattle.zone_source.specs.Told.{told_by_source}
 use Rattle.zone_source.specs.declared.error.SourceError.TheVariants as source
 use Rattle.zone_table.specs.declared.table.Table.{Table}

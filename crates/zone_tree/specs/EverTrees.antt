@@ -6,7 +6,7 @@ use Rattle.tz_ever.specs.declared.open.EverFault.{EverFault}
 use Rattle.tz_ever.specs.declared.open.EverFault.TheVariants.{LaterDay, LaterOffset, RulesEnd as Ending, Zone}
 use Rattle.tz_zone.specs.declared.compile.ZoneFault.TheVariants as zone
 use Rattle.tz_zone.specs.declared.set.FixedTimespanSet.{FixedTimespanSet}
-use Rattle.ustar.specs.Entries.{Content, of_file, of_link}
+use Rattle.zone_tree.specs.ArchiveEntries.{Content, of_file, of_link}
 use Rattle.zone_source.specs.Faults.{source_fault}
 use Rattle.zone_source.specs.Releases.{release_of}
 use Rattle.zone_source.specs.Zones.{values_of}

@@ -1,4 +1,9 @@
 -- Definitions: what public clauses say.
+pub mod ArchiveEntries
+pub mod ArchiveNames
+pub mod ArchiveHeaders
+pub mod Archives
+pub mod ArchiveReading
 pub mod Contents
 pub mod Names
 pub mod Refusals

@@ -2,11 +2,11 @@
 use Rattle.std.specs.Prelude.{ℕ, Bool, not, List, [], ◌∷◌, ◌++◌, filter, reverse, is_some, Option, option_map, Result}
 use Rattle.std.specs.FinMap.{get, keys}
 use Rattle.std.specs.List.{flat_map}
-use Rattle.owned.specs.InOrder.{in_order}
-use Rattle.owned.specs.Keyed.{text_cmp}
-use Rattle.owned.specs.Listed.{listed}
+use Rattle.basics.specs.InOrder.{in_order}
+use Rattle.basics.specs.Keyed.{text_cmp}
+use Rattle.basics.specs.Listed.{listed}
 use Rattle.tz_zone.specs.Compiles.{compiled_in}
-use Rattle.ustar.specs.Entries.{Content}
+use Rattle.zone_tree.specs.ArchiveEntries.{Content}
 use Rattle.zone_source.specs.Zones.{rules_in, values_of, zone_in}
 use Rattle.zone_spans.specs.Compiled.{compiled}
 use Rattle.zone_table.specs.Joined.{zone_of, link_of}

@@ -1,8 +1,8 @@
 -- What the code's answers tell.
 use Rattle.std.specs.Prelude.{◌≡◌, ℕ, List, ◌++◌, Result, Ok, Err, MatchOption}
 use Rattle.std.specs.List.{flat_map}
-use Rattle.ustar.specs.Archives.{entry_bytes}
-use Rattle.ustar.specs.Entries.{EntryValue}
+use Rattle.zone_tree.specs.Archives.{entry_bytes}
+use Rattle.zone_tree.specs.ArchiveEntries.{EntryValue}
 use Rattle.zone_source.specs.Told.{told_by_source}
 use Rattle.zone_source.specs.declared.error.SourceError.TheVariants as source
 use Rattle.zone_tree.specs.Trees.{Refused, refused, Cause, of_source, of_name}

@@ -1,8 +1,8 @@
 -- What holds of each archive.
 use Rattle.std.specs.Prelude.{◌≡◌, ◌&&◌, ℕ, Bool, true, false, List, [], ◌∷◌, ◌++◌, Option, Some, None, bytes_eq, is_some}
 use Rattle.std.specs.List.{list_any}
-use Rattle.ustar.specs.Archives.{IsArchive}
-use Rattle.ustar.specs.Entries.{Content, of_file, of_link, EntryValue, entry}
+use Rattle.zone_tree.specs.Archives.{IsArchive}
+use Rattle.zone_tree.specs.ArchiveEntries.{Content, of_file, of_link, EntryValue, entry}
 use Rattle.zone_source.specs.Releases.{release_of}
 use Rattle.zone_source.specs.Zones.{zone_in}
 use Rattle.zone_tree.specs.Entries.{version_name}

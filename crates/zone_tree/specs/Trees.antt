@@ -1,7 +1,7 @@
 -- The archive of a source.
 use Rattle.std.specs.Prelude.{ℕ, List, [], ◌∷◌, ◌++◌, Option, Some, None, Result, Ok, Err}
-use Rattle.ustar.specs.Archives.{archive}
-use Rattle.ustar.specs.Entries.{EntryValue}
+use Rattle.zone_tree.specs.Archives.{archive}
+use Rattle.zone_tree.specs.ArchiveEntries.{EntryValue}
 use Rattle.zone_source.specs.Releases.{release_of}
 use Rattle.zone_source.specs.Faults.{SourceFault, source_fault}
 use Rattle.zone_tree.specs.Entries.{version_name, entry_of, release_entry}

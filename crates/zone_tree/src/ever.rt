@@ -3,7 +3,7 @@ ghost use Rattle.std.specs.Prelude.{◌≡◌, Err, IfErr, IfOk, IsTrue, Ok, map
 ghost use Rattle.std.specs.FinMap.{keys};
 ghost use Rattle.tz_ever.specs.EverShown.{ever_seen};
 ghost use Rattle.tz_ever.specs.Opens.{IsFoundForEver};
-ghost use Rattle.ustar.specs.Entries.{of_file};
+ghost use Rattle.zone_tree.specs.ArchiveEntries.{of_file};
 ghost use Rattle.zone_table.specs.BoundedTables.{IsBoundedTable};
 ghost use Rattle.zone_tree.specs.EverTold.{RefusesName, TellsWhy, made_shown};
 ghost use Rattle.zone_tree.specs.EverTrees.{AreContents, HasContent, HasFile, file_why, footer_why, zone_why};
@@ -73,7 +73,7 @@ impl<'t> ZoneFiles for EverFiles<'t> {
 
 impl<'t> Made<'t> {
     ghost use Rattle.std.specs.Prelude.{◌≡◌, IfErr, IfOk, Ok};
-    ghost use Rattle.ustar.specs.Entries.{of_file};
+    ghost use Rattle.zone_tree.specs.ArchiveEntries.{of_file};
     ghost use Rattle.zone_tree.specs.EverTold.{made_shown};
     ghost use Rattle.zone_tree.specs.Told.{IsWhy};
 

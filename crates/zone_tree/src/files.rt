@@ -2,7 +2,7 @@
 ghost use Rattle.std.specs.Prelude.{◌≡◌, ℕ, List, Result, Ok, IfOk, IfErr};
 ghost use Rattle.tz_zone.specs.Compiles.{compiled_in};
 ghost use Rattle.tz_zone.specs.Sets.{schedule_of, IsAccepted};
-ghost use Rattle.ustar.specs.Entries.{Content, of_file};
+ghost use Rattle.zone_tree.specs.ArchiveEntries.{Content, of_file};
 ghost use Rattle.zone_table.specs.BoundedTables.{IsBoundedTable};
 ghost use Rattle.zone_tree.specs.Contents.{has_mark, is_marked, file_or, file_unless, zone_content};
 ghost use Rattle.zone_tree.specs.Told.{IsWhy};

@@ -3,8 +3,8 @@ ghost use Rattle.std.specs.Prelude.{◌≡◌, nat_eq, slice_get, false, map as 
 ghost use Rattle.std.specs.Option.{option_map_or};
 ghost use Rattle.std.specs.Ordering.{is_lt};
 ghost use Rattle.std.specs.List.{list_any, starts_with};
-ghost use Rattle.owned.specs.InOrderLaws.{RisesStrictly};
-ghost use Rattle.owned.specs.Keyed.{text_cmp};
+ghost use Rattle.basics.specs.InOrderLaws.{RisesStrictly};
+ghost use Rattle.basics.specs.Keyed.{text_cmp};
 ghost use Rattle.tz_lookup.specs.Databases.{name_shown};
 ghost use Rattle.zone_tree.specs.Entries.{is_taken};
 ghost use Rattle.zone_tree.specs.Shown.{all_names};

@@ -1,6 +1,7 @@
 //! A whole zoneinfo tree from one source: every zone, and every link to one, as a TZif file in a tar archive.
 #![tactic(auto)]
 
+mod archive;
 mod entry;
 mod ever;
 mod files;
@@ -13,6 +14,7 @@ mod respond;
 mod running;
 mod whole;
 
+pub use archive::{one_list, reads_back};
 pub use laws::{ever_names_and_links, names_and_links, same_by_table};
 pub use refusal::{TreeFault, Why};
 pub use running::{run_tree, start_tree};

@@ -3,7 +3,7 @@ ghost use Rattle.std.specs.Prelude.{◌≡◌};
 ghost use Rattle.zone_tree.specs.Refusals.{string_word};
 ghost use Rattle.zone_tzif.specs.Asks.{fault_word};
 
-use owned::Text;
+use basics::Text;
 use std::alloc::AllocError;
 use std::{error, fmt};
 use zone_source::SourceError;

@@ -3,12 +3,12 @@ use Rattle.std.proofs.Common.{◌≡◌, ℕ, ℤ, pos, neg_ℤ, cond, ◌+◌, 
 use Rattle.std.specs.Prelude.{◌&&◌, ◌||◌}
 use Rattle.std.specs.Int.{int_div_euclid}
 use Rattle.std.proofs.lemmas.Int.{ints}
-use Rattle.calendar.specs.ComparisonLaws.{lt_pass}
-use Rattle.calendar.specs.DateLaws.{day_parts, day-range, year_of-day, year-between}
-use Rattle.calendar.specs.Dates.{last_with, year_of, month_of, day_of}
-use Rattle.calendar.specs.Days.{day, days_in_month, IsCountedYear, IsDate}
-use Rattle.calendar.specs.SignedLaws.{signed}
-use Rattle.calendar.specs.Weekdays.{weekday_of}
+use Rattle.basics.specs.ComparisonLaws.{lt_pass}
+use Rattle.basics.specs.DateLaws.{day_parts, day-range, year_of-day, year-between}
+use Rattle.basics.specs.Dates.{last_with, year_of, month_of, day_of}
+use Rattle.basics.specs.Days.{day, days_in_month, IsCountedYear, IsDate}
+use Rattle.basics.specs.SignedLaws.{signed}
+use Rattle.basics.specs.Weekdays.{weekday_of}
 use Rattle.zone_spans.specs.Cycle.{days_on, next_cycle, seconds_on}
 use Rattle.tz_posix.specs.Days.{julian_day, nth_weekday, rule_day}
 use Rattle.tz_posix.specs.InForce.{YearlyTime, instant_in, is_saving, is_within, moments_in, posix_total, year_at}

@@ -1,7 +1,7 @@
 -- A footer that gives a set's totals for ever gives them from each entry from which another does.
 use Rattle.std.proofs.Common.{◌≡◌, ℕ, Some, ℤ, ◌≤ℤ◌, ◌<ℤ◌, sym, ap, ◌∙◌, arith}
 use Rattle.std.proofs.lemmas.Int.{ints, by_lt_z}
-use Rattle.calendar.specs.ComparisonLaws.{le_le}
+use Rattle.basics.specs.ComparisonLaws.{le_le}
 use Rattle.civil_base.specs.Ranges.{IsOffset}
 use Rattle.zone_spans.specs.Cycle.{seconds_on}
 use Rattle.zone_spans.specs.Entries.{total}

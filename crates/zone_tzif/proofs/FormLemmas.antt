@@ -3,7 +3,7 @@ use Rattle.std.proofs.Common.{◌≡◌, ℕ, zero, suc, ◌+◌, ◌==◌, ◌<
 use Rattle.std.specs.Prelude.{◌&&◌}
 use Rattle.std.proofs.lemmas.Bool.Decides.{nat_tests}
 use Rattle.std.proofs.lemmas.List.{get_or-map}
-use Rattle.calendar.specs.ComparisonLaws.{le_fail, le_pass}
+use Rattle.basics.specs.ComparisonLaws.{le_fail, le_pass}
 use Rattle.zone_spans.specs.Entries.{Entry, total}
 use Rattle.zone_spans.specs.declared.span.FixedTimespan.{FixedTimespan}
 use Rattle.tz_zone.specs.Sets.{shift_of, shifts_of, span_in, total_of_span}

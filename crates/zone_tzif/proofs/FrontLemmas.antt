@@ -6,7 +6,7 @@ use Rattle.std.proofs.lemmas.Bool.{and_from, and_parts}
 use Rattle.std.proofs.lemmas.Int.{ints}
 use Rattle.std.proofs.lemmas.List.{length-map, take-map}
 use Rattle.std.proofs.lemmas.List.Elements.{All-take}
-use Rattle.calendar.specs.ComparisonLaws.{le_pass, le_fail}
+use Rattle.basics.specs.ComparisonLaws.{le_pass, le_fail}
 use Rattle.civil_base.specs.Ranges.{is_offset}
 use Rattle.zone_spans.specs.Entries.{Entry, total}
 use Rattle.tz_zone.specs.Sets.{IsAccepted, IsSpanTime, schedule_of, shift_of, shifts_of, span_in}

@@ -2,7 +2,7 @@
 use Rattle.std.proofs.Common.{◌≡◌, ◌↔◌, ℕ, zero, suc, ◌-◌, ◌<◌, ◌≤◌, List, [], ◌∷◌, length, map, ℤ, ◌≤ℤ◌, ◌<ℤ◌, refl, sym, ap, ◌∙◌, subst, ⊎_elim, arith}
 use Rattle.std.proofs.lemmas.Int.{ints, by_lt_z}
 use Rattle.std.proofs.lemmas.Bool.{cases_lt}
-use Rattle.calendar.specs.ComparisonLaws.{le_le, lt_le}
+use Rattle.basics.specs.ComparisonLaws.{le_le, lt_le}
 use Rattle.zone_spans.specs.Entries.{Entry, total}
 use Rattle.tz_tzif.specs.FooterForce.{FooterZone}
 use Rattle.tz_lookup.specs.YearSeconds.{rules_begin}

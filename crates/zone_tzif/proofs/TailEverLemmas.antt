@@ -1,9 +1,9 @@
 -- A footer that gives a set's totals up to the end of the cycle gives them for ever.
 use Rattle.std.proofs.Common.{◌≡◌, ℕ, zero, suc, ◌+◌, ◌*◌, ◌<◌, ◌≤◌, Option, ℤ, pos, neg_ℤ, ◌+ℤ◌, ◌-ℤ◌, ◌*ℤ◌, ◌≤ℤ◌, ◌<ℤ◌, refl, sym, ap, ◌∙◌, subst, arith}
 use Rattle.std.proofs.lemmas.Int.{ints}
-use Rattle.calendar.specs.Days.{day, is_leap, days_in_year, days_in_month, days_after_zero, year_start, days_through, days_into_year}
-use Rattle.calendar.specs.ComparisonLaws.{lt_pass}
-use Rattle.calendar.specs.SignedLaws.{signed}
+use Rattle.basics.specs.Days.{day, is_leap, days_in_year, days_in_month, days_after_zero, year_start, days_through, days_into_year}
+use Rattle.basics.specs.ComparisonLaws.{lt_pass}
+use Rattle.basics.specs.SignedLaws.{signed}
 use Rattle.civil_base.specs.Instants.{seconds_of}
 use Rattle.civil_base.specs.RangeLaws.{offset_greatest, offset_least}
 use Rattle.civil_base.specs.Ranges.{IsOffset}

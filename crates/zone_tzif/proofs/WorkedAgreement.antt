@@ -1,6 +1,6 @@
 -- Worked rows: the seconds of years, the instants that are covered, and the cycle.
 use Rattle.std.proofs.Common.{◌≡◌, None, Some, [], false, ℤ, pos, neg_ℤ, ◌*ℤ◌, refl, arith}
-use Rattle.calendar.specs.SignedLaws.{signed}
+use Rattle.basics.specs.SignedLaws.{signed}
 use Rattle.tz_ever.specs.Seam.{next_seam, seam}
 use Rattle.tz_tzif.specs.FooterForce.{FooterZone, fixed}
 use Rattle.zone_tzif.specs.Agreement.{IsCovered, cycle_begin, cycle_end}

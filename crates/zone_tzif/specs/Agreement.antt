@@ -1,6 +1,6 @@
 -- Where a footer gives the totals of a set that goes on for ever.
 use Rattle.std.specs.Prelude.{◌≡◌, ℕ, ◌<◌, length, Option, Some, None, ℤ, pos, ◌+ℤ◌, ◌*ℤ◌, ◌≤ℤ◌, ◌<ℤ◌}
-use Rattle.calendar.specs.Days.{day}
+use Rattle.basics.specs.Days.{day}
 use Rattle.civil_base.specs.Instants.{seconds_of}
 use Rattle.civil_base.specs.Ranges.{IsOffset}
 use Rattle.tz_ever.specs.Ever.{ever_total}

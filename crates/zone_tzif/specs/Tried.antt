@@ -3,9 +3,9 @@ use Rattle.std.specs.Prelude.{ℕ, suc, ◌+◌, ◌-◌, ◌/◌, ◌%◌, Bool
 use Rattle.std.specs.Fmt.{decimal}
 use Rattle.std.specs.Int.{int_div_euclid, int_rem_euclid}
 use Rattle.std.specs.Ordering.{int_eq}
-use Rattle.calendar.specs.Dates.{day_of, month_of, year_of}
-use Rattle.calendar.specs.Days.{days_in_month}
-use Rattle.calendar.specs.Weekdays.{weekday_of}
+use Rattle.basics.specs.Dates.{day_of, month_of, year_of}
+use Rattle.basics.specs.Days.{days_in_month}
+use Rattle.basics.specs.Weekdays.{weekday_of}
 use Rattle.zone_spans.specs.Entries.{Entry, total}
 use Rattle.tz_zone.specs.Sets.{shifts_of, span_in}
 use Rattle.tz_zone.specs.Spans.{Shift}

@@ -1,6 +1,6 @@
 -- The years of seconds.
 use Rattle.std.specs.Prelude.{ℤ, pos, ◌+ℤ◌, ◌*ℤ◌, ◌≤ℤ◌, ◌<ℤ◌}
-use Rattle.calendar.specs.Days.{day}
+use Rattle.basics.specs.Days.{day}
 
 -- by clocks so many seconds ahead of UTC the date of a second lies in the years from first to last
 pub record IsInYears (first last offset second : ℤ) : Type 0 where

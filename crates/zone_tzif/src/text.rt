@@ -5,7 +5,7 @@ ghost use Rattle.zone_tail.specs.Tails.{can_be_written};
 ghost use Rattle.zone_tail.specs.Texts.{name_text, offset_text, saving_text};
 ghost use Rattle.zone_tzif.specs.Tried.{change_by, days_back, is_past_noon, moment_text, parts_text, signed_text, week_of};
 
-use calendar::{date_of, month_length, weekday};
+use basics::{date_of, month_length, weekday};
 use std::alloc::{AllocError, Global};
 use zone_tail::parts::{add, add_name, add_number, add_offset, add_saving, add_time};
 

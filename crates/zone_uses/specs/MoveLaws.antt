@@ -2,7 +2,7 @@
 use Rattle.std.proofs.Common.{◌≡◌, Bool, true, false, cond, List, [], ◌∷◌, map, take, length, ◌≤◌, ℤ, pos, ◌+ℤ◌, ◌*ℤ◌, ◌<ℤ◌, refl, sym, ap, ◌∙◌, subst, ⊎_elim, arith}
 use Rattle.std.specs.Prelude.{Contains, int_lt}
 use Rattle.std.proofs.lemmas.Bool.{cases_Bool}
-use Rattle.calendar.specs.ComparisonLaws.{lt_from_pass, lt_from_fail, lt_le}
+use Rattle.basics.specs.ComparisonLaws.{lt_from_pass, lt_from_fail, lt_le}
 use Rattle.civil_base.specs.Instants.{instant_at}
 use Rattle.civil_base.specs.Ranges.{IsOffset}
 use Rattle.zone_spans.specs.Schedules.{instants}

@@ -3,10 +3,10 @@
 use Rattle.std.proofs.Common.{◌≡◌, ℕ, ◌+◌, ◌-◌, ◌%◌, ◌<◌, ℤ, pos, ◌+ℤ◌, ◌-ℤ◌, ◌≤ℤ◌, inl, inr, arith}
 use Rattle.std.proofs.lemmas.Bool.{cases_lt}
 use Rattle.std.proofs.lemmas.Int.{ints}
-use Rattle.calendar.specs.Days.{days_in_month, days_into_year, day}
-use Rattle.calendar.specs.MonthLaws.{days_in_month-bounds}
-use Rattle.calendar.specs.WeekdayLaws.{weekday_of-later, weekday_of-small}
-use Rattle.calendar.specs.Weekdays.{weekday_of}
+use Rattle.basics.specs.Days.{days_in_month, days_into_year, day}
+use Rattle.basics.specs.MonthLaws.{days_in_month-bounds}
+use Rattle.basics.specs.WeekdayLaws.{weekday_of-later, weekday_of-small}
+use Rattle.basics.specs.Weekdays.{weekday_of}
 use Rattle.zone_values.specs.Days.{first_from, last_up_to, named_day}
 use Rattle.zone_values.specs.Months.{month_number}
 use Rattle.zone_values.specs.WeekdayLaws.{first_from-is, weekday_number-small}

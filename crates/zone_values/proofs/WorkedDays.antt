@@ -1,10 +1,10 @@
 -- The days that rules and ends name, and the moments of ends, at worked rows.
 use Rattle.std.proofs.Common.{◌≡◌, [], ◌∷◌, map, true, false, Some, None, refl, pos, negsuc, arith}
 use Rattle.std.proofs.lemmas.Int.{ints}
-use Rattle.calendar.specs.Days.{is_leap, days_in_year, days_in_month, days_after_zero, year_start, days_through, days_into_year, day, IsDate, IsCountedYear}
-use Rattle.calendar.specs.DateLaws.{month_of-day, day_of-day}
-use Rattle.calendar.specs.Dates.{last_with}
-use Rattle.calendar.specs.Weekdays.{weekday_of}
+use Rattle.basics.specs.Days.{is_leap, days_in_year, days_in_month, days_after_zero, year_start, days_through, days_into_year, day, IsDate, IsCountedYear}
+use Rattle.basics.specs.DateLaws.{month_of-day, day_of-day}
+use Rattle.basics.specs.Dates.{last_with}
+use Rattle.basics.specs.Weekdays.{weekday_of}
 use Rattle.zone_values.specs.Days.{named_day, first_from, is_in_year, has_day_of_month, written, concrete_day}
 use Rattle.zone_values.specs.Ends.{is_dated, is_dated_year, time_type, wall}
 use Rattle.zone_values.specs.Seconds.{seconds_of, with_type}

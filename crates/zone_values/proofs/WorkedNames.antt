@@ -3,7 +3,7 @@ use Rattle.std.proofs.Common.{◌≡◌, ℕ, List, [], ◌∷◌, map, Some, No
 use Rattle.std.specs.Prelude.{codes}
 use Rattle.zone_values.specs.Faults.{refused}
 use Rattle.zone_values.specs.Months.{month_number, month_numbered, month_named, month_field}
-use Rattle.text_parts.specs.Numbers.{signed_in}
+use Rattle.basics.specs.Numbers.{signed_in}
 use Rattle.zone_values.specs.Weekdays.{weekday_number, weekday_named, weekday_field}
 use Rattle.zone_values.specs.Years.{year_named, year_field}
 use Rattle.zone_values.specs.declared.fault.FaultKind.TheVariants.{FailedYearParse, FailedMonthParse, FailedWeekdayParse}

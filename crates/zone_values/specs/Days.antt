@@ -1,8 +1,8 @@
 -- The days that rules and ends name.
 use Rattle.std.specs.Prelude.{ℕ, ◌==◌, ℤ, pos, ◌+ℤ◌, ◌-ℤ◌, nat_abs, int_le, int_lt, Bool, true, ◌&&◌, Option, Some, None, if◌then◌else◌}
-use Rattle.calendar.specs.Days.{day, days_in_month}
-use Rattle.calendar.specs.Dates.{last_with, month_of, day_of}
-use Rattle.calendar.specs.Weekdays.{weekday_of}
+use Rattle.basics.specs.Days.{day, days_in_month}
+use Rattle.basics.specs.Dates.{last_with, month_of, day_of}
+use Rattle.basics.specs.Weekdays.{weekday_of}
 use Rattle.zone_values.specs.Months.{month_number, month_numbered}
 use Rattle.zone_values.specs.Weekdays.{weekday_number}
 use Rattle.zone_values.specs.declared.day.DaySpec.{DaySpec}

@@ -1,5 +1,5 @@
 -- Definitions: what public clauses say.
-pub use Rattle.text_parts.specs.Numbers
+pub use Rattle.basics.specs.Numbers
 pub mod Names
 pub mod Faults
 pub mod Years
@@ -12,6 +12,6 @@ pub mod Ends
 pub mod Bounds
 pub mod Results
 -- Laws: what a caller may use.
-pub use Rattle.calendar.specs.LogicLaws
+pub use Rattle.basics.specs.LogicLaws
 pub mod SameLaws
 pub mod WeekdayLaws

@@ -1,7 +1,7 @@
 -- Values that are found to be the same by `==` are one value.
 use Rattle.std.proofs.Common.{◌≡◌, true, ◌&&◌, ap, rules}
 use Rattle.std.proofs.lemmas.Bool.{and_parts}
-use Rattle.calendar.specs.LogicLaws.{no_case}
+use Rattle.basics.specs.LogicLaws.{no_case}
 use Rattle.zone_values.specs.contracts.change.ChangeTimePartialEq.TheImpl as of_end
 use Rattle.zone_values.specs.contracts.day.DaySpecPartialEq.TheImpl as of_day
 use Rattle.zone_values.specs.contracts.month.MonthPartialEq.TheImpl as of_month

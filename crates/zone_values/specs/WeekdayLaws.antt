@@ -1,9 +1,9 @@
 -- The weekdays' numbers are below 7, and where among seven days one with a weekday stands.
 use Rattle.std.proofs.Common.{◌≡◌, ℕ, ◌+◌, ◌-◌, ◌%◌, ◌<◌, ℤ, pos, ◌+ℤ◌, ap, arith, nat_eq, eq-eqb}
 use Rattle.std.proofs.lemmas.Bool.Decides.{nat_tests}
-use Rattle.calendar.specs.DateLaws.{last_with-is}
-use Rattle.calendar.specs.WeekdayLaws.{weekday_of-later, weekday_of-small}
-use Rattle.calendar.specs.Weekdays.{weekday_of}
+use Rattle.basics.specs.DateLaws.{last_with-is}
+use Rattle.basics.specs.WeekdayLaws.{weekday_of-later, weekday_of-small}
+use Rattle.basics.specs.Weekdays.{weekday_of}
 use Rattle.zone_values.specs.Days.{first_from}
 use Rattle.zone_values.specs.Weekdays.{weekday_number}
 use Rattle.zone_values.specs.declared.weekday.Weekday.{Weekday}

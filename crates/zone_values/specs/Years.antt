@@ -3,7 +3,7 @@ use Rattle.std.specs.Prelude.{ℕ, ◌^◌, List, Option, Some, option_map, ok_o
 use Rattle.zone_values.specs.Faults.{Fault, refused}
 use Rattle.zone_values.specs.declared.fault.FaultKind.TheVariants.{FailedYearParse}
 use Rattle.zone_values.specs.Names.{is_name}
-use Rattle.text_parts.specs.Numbers.{signed_in}
+use Rattle.basics.specs.Numbers.{signed_in}
 use Rattle.zone_values.specs.declared.year.Year.{Year}
 use Rattle.zone_values.specs.declared.year.Year.TheVariants.{Minimum, Maximum, Number}
 

@@ -1,14 +1,14 @@
 //! Days of a month, as rules and ends name them.
 ghost use Rattle.std.specs.Prelude.{◌≡◌, pos, neg_ℤ, ◌≤ℤ◌, nat_abs, IsTrue};
-ghost use Rattle.calendar.specs.Days.{day as day_at, days_in_month};
-ghost use Rattle.calendar.specs.Dates.{month_of, day_of};
+ghost use Rattle.basics.specs.Days.{day as day_at, days_in_month};
+ghost use Rattle.basics.specs.Dates.{month_of, day_of};
 ghost use Rattle.zone_values.specs.Days.{is_day_of_month, has_day_of_month, named_day, is_in_year, first_from, last_up_to, concrete_day};
 ghost use Rattle.zone_values.specs.Weekdays.{weekday_number};
 ghost use Rattle.zone_values.specs.Months.{month_number, month_numbered};
 
 use crate::month::Month;
 use crate::weekday::Weekday;
-use calendar::{day_number, month_length};
+use basics::{day_number, month_length};
 
 /// A day of a month. A number counts from 1, to 31.
 #[derive(Clone, Copy, Debug, PartialEq)]
@@ -135,7 +135,7 @@ fn first_from(weekday: Weekday, day: i32) -> i32
     ensures least { neg_ℤ (pos 4_371_959) ≤ℤ result }
     ensures greatest { result ≤ℤ pos 2_933_268 }
 {
-    let ahead = (weekday.number() + 7 - calendar::weekday(day)) % 7;
+    let ahead = (weekday.number() + 7 - basics::weekday(day)) % 7;
     day + i32::from(ahead)
 }
 
@@ -181,6 +181,6 @@ fn month_and_day(day: i32) -> (Month, i8)
     requires last { day ≤ℤ pos 2_933_262 }
     ensures { result ≡ (month_numbered (month_of day), pos (day_of day)) }
 {
-    let date = calendar::date_of(day);
+    let date = basics::date_of(day);
     (Month::numbered(date.month), date.day as i8)
 }

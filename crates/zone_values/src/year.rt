@@ -11,7 +11,7 @@ use crate::fault::{Fault, FaultKind, or_error, value_or_fault};
 use crate::month::Month;
 use crate::weekday::Weekday;
 use std::alloc::Global;
-use text_parts::i64_in;
+use basics::i64_in;
 
 /// A year, or the first or the last of all years.
 #[derive(Clone, Copy, Debug, PartialEq)]

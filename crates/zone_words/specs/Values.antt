@@ -2,7 +2,7 @@
 use Rattle.std.specs.Prelude.{ℕ, List, [], ◌∷◌, ◌++◌, Option, Some, None, Result, Ok, Err, ℤ, nat_le, nat_lt, codes, if◌then◌else◌}
 use Rattle.std.specs.Option.{option_map_or}
 use Rattle.civil_base.specs.Layout.{day_part, time_part}
-use Rattle.text_parts.specs.Numbers.{is_numeral, value_in}
+use Rattle.basics.specs.Numbers.{is_numeral, value_in}
 use Rattle.zone_moments.specs.Readings.{asked_in, local_in}
 use Rattle.zone_moments.specs.declared.fault.TextFault.{TextFault}
 use Rattle.zone_moments.specs.declared.fault.TextFault.TheVariants.{NoSuchDate, DateMissing}

@@ -12,7 +12,7 @@ use crate::given::{Given, value_of};
 use crate::{WordCause, WordFault};
 use civil_base::{Date, PlainDateTime, Time};
 use std::alloc::{AllocError, Global};
-use text_parts::{is_numeral, u16_of_digits};
+use basics::{is_numeral, u16_of_digits};
 use zone_moments::{Asked, TextFault, read_instant, read_local};
 
 /// Two words as one text, with a space between them.

@@ -1,11 +1,11 @@
 -- No firing of a year comes long before the year begins, so what a zone shows before a year does not depend on the years from it on.
 use Rattle.std.proofs.Common.{◌≡◌, refl, [], ◌∷◌, map, true, false, pos, neg_ℤ, List, ◌++◌, arith, ◌≤◌, ℤ, ◌+ℤ◌, ◌*ℤ◌, unsigned_abs, ◌∙◌, sym, ℕ, ◌+◌, ◌≤ℤ◌, int_le, None, zero, suc, ap, ◌-ℤ◌, length, filter, inl, inr, subst, cond, reverse, ◌<ℤ◌}
 use Rattle.std.proofs.lemmas.Bool.{cases_Bool}
-use Rattle.calendar.specs.ComparisonLaws.{le_from_pass, le_fail, lt_fail}
-use Rattle.calendar.specs.Days.{day}
-use Rattle.calendar.specs.MonthLaws.{days_through-two}
-use Rattle.calendar.specs.SignedLaws.{signed, natural}
-use Rattle.calendar.specs.YearLaws.{day-cycle, cycle_days-rise}
+use Rattle.basics.specs.ComparisonLaws.{le_from_pass, le_fail, lt_fail}
+use Rattle.basics.specs.Days.{day}
+use Rattle.basics.specs.MonthLaws.{days_through-two}
+use Rattle.basics.specs.SignedLaws.{signed, natural}
+use Rattle.basics.specs.YearLaws.{day-cycle, cycle_days-rise}
 use Rattle.zone_values.specs.Days.{named_day}
 use Rattle.zone_values.specs.declared.time.TimeType.{TimeType}
 use Rattle.zone_values.specs.declared.time.TimeType.TheVariants.{Wall, UTC, Standard}

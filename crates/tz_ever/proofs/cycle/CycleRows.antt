@@ -1,6 +1,6 @@
 -- The numbers of a cycle, and the years of an instant, by the calendar.
 use Rattle.std.proofs.Common.{◌≡◌, refl, [], ◌∷◌, map, pos, neg_ℤ, List, ℤ, ◌*ℤ◌, ◌*◌, ◌-ℤ◌}
-use Rattle.calendar.specs.Days.{days_after_zero, year_start, days_through, days_into_year, day, is_leap, days_in_year, days_in_month}
+use Rattle.basics.specs.Days.{days_after_zero, year_start, days_through, days_into_year, day, is_leap, days_in_year, days_in_month}
 use Rattle.zone_spans.specs.Cycle.{cycle_length, days_on, instant_on, seconds_on}
 use Rattle.tz_ever.specs.AnyYear.{cycles_at, years_for}
 

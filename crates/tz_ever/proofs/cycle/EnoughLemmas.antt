@@ -6,11 +6,11 @@ use Rattle.std.proofs.lemmas.List.{reverse-append}
 use Rattle.std.proofs.lemmas.List.Folds.{list_all-append}
 use Rattle.std.specs.List.{list_all}
 use Rattle.std.specs.Option.{option_map_or}
-use Rattle.calendar.specs.Cycles.{cycle_days}
-use Rattle.calendar.specs.Days.{day}
-use Rattle.calendar.specs.MonthLaws.{days_through-two}
-use Rattle.calendar.specs.SignedLaws.{signed}
-use Rattle.calendar.specs.YearLaws.{day-cycle}
+use Rattle.basics.specs.Cycles.{cycle_days}
+use Rattle.basics.specs.Days.{day}
+use Rattle.basics.specs.MonthLaws.{days_through-two}
+use Rattle.basics.specs.SignedLaws.{signed}
+use Rattle.basics.specs.YearLaws.{day-cycle}
 use Rattle.civil_base.specs.Ranges.{is_offset}
 use Rattle.zone_values.specs.Bounds.{are_small_seconds}
 use Rattle.zone_values.specs.Days.{has_day_of_month}

@@ -2,8 +2,8 @@
 use Rattle.std.proofs.Common.{◌≡◌, refl, true, false, pos, arith, ◌≤◌, ℤ, ◌+ℤ◌, ◌∙◌, sym, ℕ, ◌+◌, ◌*◌, ◌<◌, Bool, ◌&&◌, ◌||◌, ◌≤ℤ◌, int_le, zero, suc, ap, ◌-◌, inl, inr, not, int_lt}
 use Rattle.std.proofs.lemmas.Bool.{cases_lt, cases_Bool}
 use Rattle.std.proofs.lemmas.Int.{ints}
-use Rattle.calendar.specs.Days.{day}
-use Rattle.calendar.specs.SignedLaws.{signed}
+use Rattle.basics.specs.Days.{day}
+use Rattle.basics.specs.SignedLaws.{signed}
 use Rattle.zone_values.specs.Days.{named_day, is_in_year}
 use Rattle.zone_table.specs.Moments.{applies_to_year}
 use Rattle.zone_table.specs.declared.rule.RuleInfo.{RuleInfo}

@@ -2,7 +2,7 @@
 use Rattle.std.proofs.Common.{◌≡◌, List, [], ◌∷◌, None, ℤ, pos, refl, ℕ, zero, suc, ap, ◌∙◌, arith, ◌≤ℤ◌, ◌+◌, ◌≤◌, true, ◌++◌, length, filter, sym, append-nil, int_lt, append_assoc}
 use Rattle.std.proofs.lemmas.Int.{ints}
 use Rattle.std.proofs.lemmas.List.{map-append}
-use Rattle.calendar.specs.SignedLaws.{signed}
+use Rattle.basics.specs.SignedLaws.{signed}
 use Rattle.zone_table.specs.Moments.{moment}
 use Rattle.zone_table.specs.declared.rule.RuleInfo.{RuleInfo}
 use Rattle.zone_spans.specs.Firings.{earliest, fired, year_firings, is_earlier}

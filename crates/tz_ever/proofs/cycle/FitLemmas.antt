@@ -2,9 +2,9 @@
 use Rattle.std.proofs.Common.{◌≡◌, List, [], ◌∷◌, ℤ, pos, refl, Bool, ap, ◌∙◌, arith, ◌+ℤ◌, ◌≤ℤ◌, ◌+◌, ◌≤◌, true, false, filter, sym, ◌-◌, inl, inr, not, ◌&&◌, ◌||◌, int_le, int_lt, cond, neg_ℤ, unsigned_abs}
 use Rattle.std.proofs.lemmas.Bool.{cases_Bool}
 use Rattle.std.specs.List.{list_all}
-use Rattle.calendar.specs.ComparisonLaws.{le_from_pass}
-use Rattle.calendar.specs.Days.{day}
-use Rattle.calendar.specs.SignedLaws.{signed, natural}
+use Rattle.basics.specs.ComparisonLaws.{le_from_pass}
+use Rattle.basics.specs.Days.{day}
+use Rattle.basics.specs.SignedLaws.{signed, natural}
 use Rattle.zone_values.specs.Bounds.{are_small_seconds}
 use Rattle.zone_values.specs.Days.{named_day, is_in_year, has_day_of_month}
 use Rattle.zone_table.specs.Bounds.{is_bounded_rule}

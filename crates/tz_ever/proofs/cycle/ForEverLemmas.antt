@@ -4,12 +4,12 @@ use Rattle.std.proofs.lemmas.Bool.{cases_Bool, and_parts}
 use Rattle.std.proofs.lemmas.List.{reverse-append}
 use Rattle.std.specs.List.{list_all}
 use Rattle.std.specs.Option.{option_map_or}
-use Rattle.owned.specs.Sorted.{stable_sort}
-use Rattle.calendar.specs.ComparisonLaws.{lt_fail, lt_from_fail, lt_from_pass, le_pass}
-use Rattle.calendar.specs.Days.{day}
-use Rattle.calendar.specs.MonthLaws.{days_through-two}
-use Rattle.calendar.specs.SignedLaws.{signed, natural}
-use Rattle.calendar.specs.YearLaws.{day-cycle}
+use Rattle.basics.specs.Sorted.{stable_sort}
+use Rattle.basics.specs.ComparisonLaws.{lt_fail, lt_from_fail, lt_from_pass, le_pass}
+use Rattle.basics.specs.Days.{day}
+use Rattle.basics.specs.MonthLaws.{days_through-two}
+use Rattle.basics.specs.SignedLaws.{signed, natural}
+use Rattle.basics.specs.YearLaws.{day-cycle}
 use Rattle.zone_table.specs.declared.zone.ZoneInfo.{ZoneInfo}
 use Rattle.zone_spans.specs.Collapse.{kept_of}
 use Rattle.zone_spans.specs.Compiled.{compiled, compiled_over}

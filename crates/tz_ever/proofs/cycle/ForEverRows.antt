@@ -1,9 +1,9 @@
 -- A made zone of two rules in years far off, by what Python's zoneinfo says over zic's file of it.
 use Rattle.std.proofs.Common.{◌≡◌, refl, [], ◌∷◌, map, true, false, pos, List, codes, ℤ, ◌*ℤ◌, ◌∙◌, ℕ, Some, None, Option, Ok}
 use Rattle.std.specs.Int.Signed.{le_z_yes}
-use Rattle.calendar.specs.Dates.{last_with}
-use Rattle.calendar.specs.Days.{days_after_zero, year_start, days_through, days_into_year, day, is_leap, days_in_year, days_in_month}
-use Rattle.calendar.specs.Weekdays.{weekday_of}
+use Rattle.basics.specs.Dates.{last_with}
+use Rattle.basics.specs.Days.{days_after_zero, year_start, days_through, days_into_year, day, is_leap, days_in_year, days_in_month}
+use Rattle.basics.specs.Weekdays.{weekday_of}
 use Rattle.zone_values.specs.Days.{named_day, first_from, is_in_year}
 use Rattle.zone_values.specs.declared.change.ChangeTime.TheVariants.{UntilYear}
 use Rattle.zone_values.specs.declared.day.DaySpec.TheVariants.{Ordinal, Last}

@@ -2,8 +2,8 @@
 use Rattle.std.proofs.Common.{◌≡◌, List, [], ◌∷◌, Some, None, ℤ, pos, refl, Bool, arith, ◌*ℤ◌, true, false, ◌++◌, not, ◌&&◌, ◌||◌, find, option_map, int_lt, Option, subst, int_eq, ◌<ℤ◌, is_none, is_some}
 use Rattle.std.proofs.lemmas.Bool.{and_parts}
 use Rattle.std.specs.List.{list_all, list_any}
-use Rattle.owned.specs.Sorted.{stable_sort}
-use Rattle.calendar.specs.ComparisonLaws.{eq_from_pass}
+use Rattle.basics.specs.Sorted.{stable_sort}
+use Rattle.basics.specs.ComparisonLaws.{eq_from_pass}
 use Rattle.zone_values.specs.declared.change.ChangeTime.{ChangeTime}
 use Rattle.zone_spans.specs.Entries.{is_sooner, start_entry, Entry, fixed_span, at_start, span_of, entries_from_over, sorted_entries_over}
 use Rattle.zone_spans.specs.Firings.{Firing}

@@ -1,9 +1,9 @@
 -- The days that rules name, and the moments at which they fire, are the same in the next cycle, a cycle later.
 use Rattle.std.proofs.Common.{◌≡◌, refl, pos, arith, ℤ, ◌+ℤ◌, ◌*ℤ◌, ◌∙◌, ℕ, Bool, ◌≤ℤ◌, zero, suc, ◌==◌, ap, ◌-ℤ◌, nat_abs}
-use Rattle.calendar.specs.Dates.{last_with}
-use Rattle.calendar.specs.Days.{day, days_in_month}
-use Rattle.calendar.specs.SignedLaws.{signed}
-use Rattle.calendar.specs.Weekdays.{weekday_of}
+use Rattle.basics.specs.Dates.{last_with}
+use Rattle.basics.specs.Days.{day, days_in_month}
+use Rattle.basics.specs.SignedLaws.{signed}
+use Rattle.basics.specs.Weekdays.{weekday_of}
 use Rattle.zone_values.specs.Days.{named_day, first_from, last_up_to}
 use Rattle.zone_values.specs.Months.{month_number}
 use Rattle.zone_values.specs.Weekdays.{weekday_number}

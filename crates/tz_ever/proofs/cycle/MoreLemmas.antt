@@ -4,7 +4,7 @@ use Rattle.std.proofs.lemmas.Bool.{cases_Bool, and_parts}
 use Rattle.std.proofs.lemmas.List.Folds.{find-append, list_any-append}
 use Rattle.std.specs.List.{list_any}
 use Rattle.std.specs.Option.{option_or, option_map_or}
-use Rattle.owned.specs.Sorted.{stable_sort}
+use Rattle.basics.specs.Sorted.{stable_sort}
 use Rattle.zone_table.specs.declared.rule.RuleInfo.{RuleInfo}
 use Rattle.zone_table.specs.declared.zone.ZoneInfo.{ZoneInfo}
 use Rattle.zone_spans.specs.Collapse.{collapsed}

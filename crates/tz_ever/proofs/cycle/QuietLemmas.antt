@@ -2,7 +2,7 @@
 use Rattle.std.proofs.Common.{◌≡◌, List, [], ◌∷◌, None, ℤ, pos, refl, ℕ, zero, suc, Bool, ap, ◌∙◌, arith, ◌≤ℤ◌, ◌+◌, ◌≤◌, true, false, ◌++◌, length, map, filter, sym, append-nil, inl, inr, not, ◌&&◌, Option}
 use Rattle.std.proofs.lemmas.Bool.{cases_Bool}
 use Rattle.std.specs.List.{list_any}
-use Rattle.calendar.specs.SignedLaws.{signed}
+use Rattle.basics.specs.SignedLaws.{signed}
 use Rattle.zone_table.specs.declared.rule.RuleInfo.{RuleInfo}
 use Rattle.zone_spans.specs.Entries.{entry_of, start_entry, entries_from_over, entries_of_over}
 use Rattle.zone_spans.specs.Firings.{fired, year_firings, Fired}

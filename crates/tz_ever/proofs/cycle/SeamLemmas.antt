@@ -1,7 +1,7 @@
 -- Where the saving is the same on both sides of a cycle, all that fires later repeats; and rules of one clock see to that.
 use Rattle.std.proofs.Common.{◌≡◌, refl, [], ◌∷◌, map, true, false, pos, List, ◌++◌, arith, ◌≤◌, ℤ, ◌∙◌, sym, ℕ, ◌+◌, ◌≤ℤ◌, None, suc, ap, length, filter, int_lt, cond}
 use Rattle.std.proofs.lemmas.Int.{ints}
-use Rattle.calendar.specs.SignedLaws.{signed}
+use Rattle.basics.specs.SignedLaws.{signed}
 use Rattle.zone_values.specs.declared.time.TimeType.{TimeType}
 use Rattle.zone_values.specs.declared.time.TimeType.TheVariants.{Wall, UTC, Standard}
 use Rattle.zone_table.specs.Moments.{instant_of, moment}

@@ -1,6 +1,6 @@
 -- Items that come after all others, in their order, stay behind them when all are sorted.
 use Rattle.std.proofs.Common.{◌≡◌, List, [], ◌∷◌, refl, Bool, ap, ◌∙◌, true, false, ◌++◌, cond}
-use Rattle.owned.specs.Sorted.{stable_sort, put_in}
+use Rattle.basics.specs.Sorted.{stable_sort, put_in}
 
 -- none of the items is below that one
 abbrev pub NoneIsBelow : {X : Type 0} → (X → X → Bool) → X → List X → Type 0

@@ -3,9 +3,9 @@ use Rattle.std.proofs.Common.{◌≡◌, List, [], ◌∷◌, ℤ, pos, refl, �
 use Rattle.std.proofs.lemmas.Bool.{and_parts}
 use Rattle.std.proofs.lemmas.Int.{ints}
 use Rattle.std.proofs.lemmas.List.{reverse-append}
-use Rattle.owned.specs.Bytes.{are_same_bytes}
-use Rattle.calendar.specs.ComparisonLaws.{eq_from_pass}
-use Rattle.calendar.specs.SignedLaws.{signed}
+use Rattle.basics.specs.Bytes.{are_same_bytes}
+use Rattle.basics.specs.ComparisonLaws.{eq_from_pass}
+use Rattle.basics.specs.SignedLaws.{signed}
 use Rattle.zone_spans.specs.Collapse.{is_no_later, is_same_span, kept_of, kept_with, without_first}
 use Rattle.zone_spans.specs.Entries.{Entry}
 use Rattle.zone_spans.specs.declared.span.FixedTimespan.{FixedTimespan}

@@ -2,8 +2,8 @@
 use Rattle.std.proofs.Common.{◌≡◌, List, [], ◌∷◌, ℤ, pos, refl, ℕ, ap, ◌∙◌, arith, ◌+ℤ◌, ◌*ℤ◌, ◌≤ℤ◌, ◌+◌, true, false, ◌++◌, sym, int_le, int_lt, cond, reverse, ◌<ℤ◌}
 use Rattle.std.proofs.lemmas.Int.{ints}
 use Rattle.std.proofs.lemmas.List.{reverse-append}
-use Rattle.calendar.specs.ComparisonLaws.{le_fail, lt_from_fail}
-use Rattle.calendar.specs.SignedLaws.{signed}
+use Rattle.basics.specs.ComparisonLaws.{le_fail, lt_from_fail}
+use Rattle.basics.specs.SignedLaws.{signed}
 use Rattle.zone_spans.specs.Collapse.{is_no_later, is_same_span, kept_of, kept_with}
 use Rattle.zone_spans.specs.Entries.{Entry, total, sorted_entries_over}
 use Rattle.zone_spans.specs.Lines.{Line}

@@ -4,8 +4,8 @@ use Rattle.std.proofs.lemmas.Bool.{and_parts}
 use Rattle.std.proofs.lemmas.Int.{ints}
 use Rattle.std.specs.List.{list_all}
 use Rattle.std.specs.Option.{option_map_or}
-use Rattle.calendar.specs.ComparisonLaws.{eq_from_pass}
-use Rattle.calendar.specs.SignedLaws.{signed}
+use Rattle.basics.specs.ComparisonLaws.{eq_from_pass}
+use Rattle.basics.specs.SignedLaws.{signed}
 use Rattle.zone_spans.specs.Collapse.{is_no_later, is_same_span, kept_of, kept_with}
 use Rattle.zone_spans.specs.Entries.{is_sooner, Entry, total}
 use Rattle.zone_spans.specs.LaterLaws.{ends-by}

@@ -1,7 +1,7 @@
 -- A zone whose last line goes on: its entries over more years, its entries of a later cycle, and the total there.
 use Rattle.std.proofs.Common.{◌≡◌, List, [], ◌∷◌, Some, None, ℤ, pos, refl, ℕ, ap, ◌∙◌, arith, ◌+◌, ◌≤◌, true, ◌++◌, map, sym, append-nil, find, Option, int_eq, append_assoc, reverse}
 use Rattle.std.proofs.lemmas.List.{map-append, reverse-append}
-use Rattle.owned.specs.Sorted.{stable_sort}
+use Rattle.basics.specs.Sorted.{stable_sort}
 use Rattle.zone_spans.specs.Collapse.{kept_of, collapsed}
 use Rattle.zone_spans.specs.Entries.{entry_of, is_sooner, start_entry, Entry, entries_from_over, entries_of_over, next_start_over, sorted_entries_over}
 use Rattle.zone_spans.specs.Firings.{Fired, Firing, line_firings_over, years_over}

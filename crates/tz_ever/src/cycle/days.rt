@@ -1,7 +1,7 @@
 //! Days, weekdays and the moments of rules repeat after 400 years.
 ghost use Rattle.std.specs.Prelude.{◌≡◌, ℕ, ℤ, pos, ◌≤ℤ◌};
-ghost use Rattle.calendar.specs.Days.{day, days_in_month};
-ghost use Rattle.calendar.specs.Weekdays.{weekday_of};
+ghost use Rattle.basics.specs.Days.{day, days_in_month};
+ghost use Rattle.basics.specs.Weekdays.{weekday_of};
 ghost use Rattle.zone_spans.specs.Cycle.{days_on, next_cycle, seconds_on};
 ghost use Rattle.zone_table.specs.Moments.{moment};
 ghost use Rattle.zone_table.specs.declared.rule.RuleInfo.{RuleInfo};

@@ -6,7 +6,7 @@ use crate::date::Date;
 use crate::read::numbers::{large_number, small_number};
 use crate::rule_time::RuleTime;
 use crate::values::Rule;
-use text_parts::after_mark;
+use basics::after_mark;
 
 /// The numbers of a weekday of a month, and the rest.
 #[tactic(auto, unfolding(crate::specs::Reading::weekday_at))]

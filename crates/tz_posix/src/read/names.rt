@@ -3,7 +3,7 @@ ghost use Rattle.std.specs.Prelude.{◌≡◌};
 ghost use Rattle.tz_posix.specs.Reading.{read_as, letters_at, enclosed_at, name_at};
 
 use crate::read::numbers::{split_enclosed, split_letters};
-use text_parts::after_mark;
+use basics::after_mark;
 
 /// The fewest letters of a name without brackets.
 const FEWEST: usize = 3;

@@ -4,7 +4,7 @@ ghost use Rattle.tz_posix.specs.Reading.{read_as, part_at, clock_time_at, sign_a
 
 use crate::read::numbers::small_number;
 use crate::time::{Offset, Time};
-use text_parts::after_mark;
+use basics::after_mark;
 
 /// `:` and a number, where the text begins with `:`.
 #[tactic(auto, unfolding(crate::specs::Reading::part_at))]

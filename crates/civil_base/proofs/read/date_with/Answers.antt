@@ -1,8 +1,8 @@
 use Rattle.std.proofs.Common.{rules, arith, ◌≡◌, to_z, of_z, to_z-of_z, FitsSigned, w32, sym, ap, ◌∙◌, unsigned_abs, ℤ, pos, int_lt, ℕ, Bool, false, ◌&&◌, nat_eq}
-use Rattle.calendar.specs.SignedLaws.{signed_casts}
-use Rattle.calendar.specs.Days.{day, IsDate}
-use Rattle.calendar.specs.Dates.{year_of, month_of, day_of}
-use Rattle.calendar.specs.DateLaws.{year_of-day, month_of-day, day_of-day}
+use Rattle.basics.specs.SignedLaws.{signed_casts}
+use Rattle.basics.specs.Days.{day, IsDate}
+use Rattle.basics.specs.Dates.{year_of, month_of, day_of}
+use Rattle.basics.specs.DateLaws.{year_of-day, month_of-day, day_of-day}
 use Rattle.civil_base.specs.DateParts.{HasParts}
 use Rattle.civil_base.specs.DayRangeLaws.{counted, date-inside}
 use Rattle.civil_base.specs.Offsets.{signed_by}

@@ -1,5 +1,5 @@
 use Rattle.std.proofs.Common.{arith, ℤ, ◌*ℤ◌, ◌+ℤ◌, pos, ◌≡◌, ℕ, ◌<◌}
-use Rattle.calendar.specs.SignedLaws.{signed}
+use Rattle.basics.specs.SignedLaws.{signed}
 use Rattle.civil_base.specs.Clock.{nanos_per_day}
 use Rattle.civil_base.specs.Layout.{day_part, time_part}
 use Rattle.civil_base.proofs.read.joined.Goals as goal

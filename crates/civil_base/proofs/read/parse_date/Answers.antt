@@ -1,9 +1,9 @@
 use Rattle.std.proofs.Common.{arith, ap, sym, unsigned_abs}
 use Rattle.std.proofs.Common.{get_or}
 use Rattle.std.proofs.lemmas.Bool.{and_parts, false≢true}
-use Rattle.calendar.specs.SignedLaws.{signed, one_sided}
-use Rattle.calendar.specs.MonthLaws.{days_in_month-bounds}
-use Rattle.calendar.specs.Dates.{year_of, month_of, day_of}
+use Rattle.basics.specs.SignedLaws.{signed, one_sided}
+use Rattle.basics.specs.MonthLaws.{days_in_month-bounds}
+use Rattle.basics.specs.Dates.{year_of, month_of, day_of}
 use Rattle.civil_base.specs.DayLaws.{date_of-day}
 use Rattle.civil_base.specs.Layout.{date_digits}
 use Rattle.civil_base.proofs.ReadLemmas.{byte-is, date-listed, found_gives}

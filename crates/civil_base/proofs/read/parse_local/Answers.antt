@@ -2,8 +2,8 @@ use Rattle.std.proofs.Common.{◌≡◌, ℕ, [], ◌++◌, ◌∷◌, List, len
 use Rattle.std.proofs.Common.{drop, get_or, Some, int_lt, ◌≢◌, if◌then◌else◌}
 use Rattle.std.proofs.lemmas.Int.{by_lt_z}
 use Rattle.std.proofs.lemmas.List.{take-append-drop}
-use Rattle.calendar.specs.ComparisonLaws.{lt_pass, lt_fail}
-use Rattle.calendar.specs.Dates.{year_of}
+use Rattle.basics.specs.ComparisonLaws.{lt_pass, lt_fail}
+use Rattle.basics.specs.Dates.{year_of}
 use Rattle.civil_base.specs.Clock.{nanos_per_day}
 use Rattle.civil_base.specs.Layout.{local_text, day_part, time_part, date_digits, time_text, year_sign}
 use Rattle.civil_base.proofs.FoundLemmas.{not_none, same_some}

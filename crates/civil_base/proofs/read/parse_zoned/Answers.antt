@@ -1,5 +1,5 @@
 use Rattle.std.proofs.Common.{arith, ◌≡◌, ◌≤◌, ℕ, ◌-◌, ◌∷◌, List, length, take, ℤ, sym, ap, ◌∙◌, drop, length-append}
-use Rattle.calendar.specs.SignedLaws.{signed}
+use Rattle.basics.specs.SignedLaws.{signed}
 use Rattle.std.proofs.lemmas.List.{take_at, drop_at}
 use Rattle.civil_base.specs.Instants.{local_at}
 use Rattle.civil_base.specs.Layout.{local_text, offset_text, zoned_text}

@@ -1,5 +1,5 @@
 use Rattle.std.proofs.Common.{arith, ◌≡◌, length, true, ℤ, pos, ◌<ℤ◌, to_z, of_z, FitsSigned, w32, sym, ap, ◌∙◌}
-use Rattle.calendar.specs.SignedLaws.{signed_casts}
+use Rattle.basics.specs.SignedLaws.{signed_casts}
 use Rattle.civil_base.specs.LayoutLaws.{year_sign-negative, year_sign-other}
 use lib.Signed.{lt_z}
 use Rattle.civil_base.proofs.read.put_sign.Goals as goal

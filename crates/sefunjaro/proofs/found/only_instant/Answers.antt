@@ -1,5 +1,5 @@
 use Rattle.std.proofs.Common.{FitsSigned, w32, w64, rules, to_z-of_z, arith}
-use Rattle.calendar.specs.SignedLaws.{signed_casts}
+use Rattle.basics.specs.SignedLaws.{signed_casts}
 use Rattle.sefunjaro.proofs.FoundLemmas.{by_offset_is}
 use Rattle.sefunjaro.proofs.OnlyLemmas.{found_only}
 use Rattle.sefunjaro.proofs.found.only_instant.Goals as goal

@@ -1,6 +1,6 @@
 use Rattle.std.proofs.Common.{◌≡◌, ℤ, pos, ◌-ℤ◌, IsTrue, FitsSigned, w32, w64, to_z, of_z, to_z-of_z, rules, sym, ap, ◌∙◌, subst, arith}
 use Rattle.std.proofs.lemmas.Int.{ints}
-use Rattle.calendar.specs.ComparisonLaws.{le_from_fail}
+use Rattle.basics.specs.ComparisonLaws.{le_from_fail}
 use Rattle.civil_base.specs.Instants.{instant_at, seconds_of}
 use Rattle.sefunjaro.proofs.FoundLemmas.{at_utc}
 use Rattle.sefunjaro.proofs.GapLemmas.{skipped_at}

@@ -1,6 +1,6 @@
 use Rattle.std.proofs.Common.{◌∙◌, ◌∷◌, pos, get_or, length, take, SFits, to_z, of_z, w32, w64, rules, refl, sym, ap, subst, arith, length-append}
 use Rattle.std.proofs.lemmas.Int.{to_z-of_z}
-use Rattle.calendar.specs.SignedLaws.{signed}
+use Rattle.basics.specs.SignedLaws.{signed}
 use Rattle.civil_base.specs.Instants.{local_at, nanos_of}
 use Rattle.civil_base.specs.Layout.{offset_text}
 use Rattle.civil_base.specs.Ranges.{IsOffset}

@@ -1,6 +1,6 @@
 use Rattle.std.proofs.Common.{◌-◌, ◌≤ℤ◌, w64, SFits, rules, sym, ◌∙◌, subst, arith}
 use Rattle.std.proofs.lemmas.Int.{to_z-of_z}
-use Rattle.calendar.specs.ComparisonLaws.{le_le}
+use Rattle.basics.specs.ComparisonLaws.{le_le}
 use Rattle.sefunjaro.proofs.stretch.begin_of.Goals as goal
 
 pub returns-else-span-eq0-clause-begun : goal.returns-else-span-eq0-clause-begun

@@ -1,5 +1,5 @@
 use Rattle.std.proofs.Common.{◌≡◌, arith, pos, ◌-ℤ◌, ◌+ℤ◌, ◌*ℤ◌, ◌≤ℤ◌, to_z, of_z, w32, unsigned_abs, ap, ◌∙◌, ◌%◌}
-use Rattle.calendar.specs.SignedLaws.{signed, signed_casts, natural}
+use Rattle.basics.specs.SignedLaws.{signed, signed_casts, natural}
 use Rattle.civil_base.specs.Clock.{nanos_per_day}
 use Rattle.civil_base.specs.Julian.{day_of_julian}
 use Rattle.tz_ever.specs.Seam.{seam_day}

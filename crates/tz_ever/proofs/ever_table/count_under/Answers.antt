@@ -1,6 +1,6 @@
 use Rattle.std.proofs.Common.{◌≡◌, ◌-ℤ◌, pos, to_z, of_z, w64, arith, subst}
 use Rattle.std.proofs.lemmas.List.{length-map}
-use Rattle.calendar.specs.SignedLaws.{signed, signed_casts}
+use Rattle.basics.specs.SignedLaws.{signed, signed_casts}
 use Rattle.tz_zone.specs.Sets.{shift_of, shifts_of}
 use Rattle.tz_zone.specs.Spans.{IsCut}
 use Rattle.tz_ever.proofs.TableLemmas.{count_is}

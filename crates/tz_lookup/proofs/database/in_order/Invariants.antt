@@ -1,7 +1,7 @@
 use Rattle.std.proofs.Common.{◌≡◌, take, map}
 use Rattle.std.specs.Prelude.{filter, reverse}
-use Rattle.owned.specs.InOrder.{in_order}
-use Rattle.owned.specs.Keyed.{text_cmp}
+use Rattle.basics.specs.InOrder.{in_order}
+use Rattle.basics.specs.Keyed.{text_cmp}
 use Rattle.tz_lookup.specs.Databases.{name_shown, resolves}
 use Rattle.tz_lookup.proofs.database.in_order.Given as goal
 

@@ -1,5 +1,5 @@
 use Rattle.std.proofs.Common.{refl, arith, to_z-of_z, ◌≡◌, ◌<◌, w32, to_z, of_z}
-use Rattle.calendar.specs.SignedLaws.{signed_casts}
+use Rattle.basics.specs.SignedLaws.{signed_casts}
 use Rattle.tz_posix.specs.WeekdayLaws.{first_weekday-is}
 use Rattle.tz_posix.proofs.date.first_weekday.Goals as goal
 

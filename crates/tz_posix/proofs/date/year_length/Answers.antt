@@ -1,5 +1,5 @@
 use Rattle.std.proofs.Common.{arith}
-use Rattle.calendar.specs.YearLaws.{days_in_year-cases}
+use Rattle.basics.specs.YearLaws.{days_in_year-cases}
 use Rattle.tz_posix.proofs.date.year_length.Goals as goal
 
 pub returns-then-is_leap_year : goal.returns-then-is_leap_year

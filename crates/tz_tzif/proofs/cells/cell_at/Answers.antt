@@ -1,7 +1,7 @@
 use Rattle.std.proofs.Common.{◌≡◌, ℤ, pos, ◌+ℤ◌, FitsSigned, w32, w64, to_z, of_z, to_z-of_z, rules, sym, ◌∙◌, arith}
 use Rattle.std.proofs.lemmas.Int.{ints}
 use Rattle.std.proofs.lemmas.Option.{none-some, same_Some}
-use Rattle.calendar.specs.ComparisonLaws.{le_from_pass}
+use Rattle.basics.specs.ComparisonLaws.{le_from_pass}
 use Rattle.tz_tzif.proofs.cells.cell_at.Goals as goal
 
 pub returns-then-end-until : goal.returns-then-end-until

@@ -1,6 +1,6 @@
 use Rattle.std.proofs.Common.{◌≡◌, ℤ, pos, ◌+ℤ◌, ◌≤ℤ◌, ◌<ℤ◌, FitsSigned, w32, w64, to_z, of_z, to_z-of_z, rules, sym, ◌∙◌, arith}
 use Rattle.std.proofs.lemmas.Int.{ints}
-use Rattle.calendar.specs.ComparisonLaws.{lt_from_fail}
+use Rattle.basics.specs.ComparisonLaws.{lt_from_fail}
 use Rattle.tz_tzif.proofs.cells.told_within.Goals as goal
 
 pub returns-in-Some : goal.returns-in-Some

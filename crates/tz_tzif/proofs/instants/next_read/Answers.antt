@@ -1,7 +1,7 @@
 -- The first offset that is read is the next.
 use Rattle.std.proofs.Common.{◌≡◌, ℕ, ◌≤◌, ◌<◌, ◌+◌, true, cond, List, ◌∷◌, length, drop, get_or, ℤ, pos, ◌-ℤ◌, refl, sym, ap, ◌∙◌, arith, to_z-of_z}
 use Rattle.std.proofs.lemmas.List.{drop_more}
-use Rattle.calendar.specs.ComparisonLaws.{eq_pass}
+use Rattle.basics.specs.ComparisonLaws.{eq_pass}
 use Rattle.tz_tzif.specs.declared.held.Held.{Held}
 use Rattle.zone_tzif_core.specs.Zones.{KindValue}
 use Rattle.tz_tzif.specs.Instants.{is_read, read_at}

@@ -1,6 +1,6 @@
 use Rattle.std.proofs.Common.{ℤ, pos, ◌-ℤ◌, ◌*ℤ◌, FitsSigned, w32, w64, to_z, of_z, to_z-of_z, rules, ap, ◌∙◌, arith}
 use Rattle.std.proofs.lemmas.Int.{ints}
-use Rattle.calendar.specs.Days.{day}
+use Rattle.basics.specs.Days.{day}
 use Rattle.tz_posix.specs.InForce.{moments_in, year_at}
 use Rattle.tz_posix.specs.Yearly.{time_shown}
 use Rattle.tz_tzif.specs.FooterForce.{year_after, year_before}

@@ -5,7 +5,7 @@ use Rattle.std.proofs.lemmas.Bool.{and_parts}
 use Rattle.std.proofs.lemmas.Bool.Decides.{nat_tests}
 use Rattle.std.proofs.lemmas.Int.{ints}
 use Rattle.std.proofs.lemmas.Simd.{map-map}
-use Rattle.calendar.specs.ComparisonLaws.{le_itself}
+use Rattle.basics.specs.ComparisonLaws.{le_itself}
 use Rattle.zone_tzif_core.specs.ZoneFiles.{change_with, changes_with, kinds_kept, unnumbered}
 use Rattle.zone_tzif_core.specs.Zones.{KindValue, go_up, rises}
 use Rattle.std.proofs.lemmas.Fn.{always_returns_same}

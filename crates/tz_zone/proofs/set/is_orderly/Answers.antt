@@ -1,5 +1,5 @@
 use Rattle.std.proofs.Common.{◌-◌, w64, SFits, arith, rules, sym, ◌∙◌}
-use Rattle.calendar.specs.ComparisonLaws.{le_same}
+use Rattle.basics.specs.ComparisonLaws.{le_same}
 use Rattle.tz_zone.proofs.SetLemmas.{count_same}
 use Rattle.std.proofs.lemmas.Int.{to_z-of_z}
 use Rattle.tz_zone.specs.Sets.{schedule_of}

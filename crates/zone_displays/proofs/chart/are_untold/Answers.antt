@@ -1,6 +1,6 @@
 use Rattle.std.proofs.Common.{◌≡◌, ℕ, ◌+◌, ◌<◌, Bool, ◌||◌, List, ◌∷◌, length, map, drop, slice_index_or, refl, ℤ, pos, int_lt, to_z, of_z, to_z-of_z, FitsSigned, w32, ap, sym, ◌∙◌, arith, rules}
 use Rattle.std.proofs.lemmas.List.{at_drop_more, at_drop_all}
-use Rattle.calendar.specs.SignedLaws.{signed_casts}
+use Rattle.basics.specs.SignedLaws.{signed_casts}
 use Rattle.zone_displays.specs.Charts.{are_untold}
 use Rattle.zone_displays.specs.SeenZones.{named}
 use Rattle.zone_displays.specs.declared.zone.ChartZone.{ChartZone}

@@ -3,8 +3,8 @@ use Rattle.std.specs.Option.{IfSome}
 use Rattle.std.specs.Result.{IfOk, is_ok, result_ok}
 use Rattle.std.proofs.lemmas.Bool.{false≢true}
 use Rattle.std.proofs.lemmas.Bool.Decides.{Decides-and, Decides-like, same_from_decides}
-use Rattle.calendar.specs.ComparisonLaws.{le_from_pass, le_pass}
-use Rattle.calendar.specs.SignedLaws.{signed_casts}
+use Rattle.basics.specs.ComparisonLaws.{le_from_pass, le_pass}
+use Rattle.basics.specs.SignedLaws.{signed_casts}
 use Rattle.civil_base.specs.Julian.{day_of_julian, julian_of}
 use Rattle.civil_base.specs.Ranges.{IsDay, first_day, last_day}
 use Rattle.zone_displays.specs.Days.{day_after, is_dated}

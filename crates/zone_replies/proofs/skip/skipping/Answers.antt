@@ -1,5 +1,5 @@
 use Rattle.std.proofs.Common.{◌≡◌, ap, ◌∙◌, arith, find, pos, ◌-ℤ◌, ◌+ℤ◌, to_z, of_z, w64}
-use Rattle.calendar.specs.SignedLaws.{signed_casts}
+use Rattle.basics.specs.SignedLaws.{signed_casts}
 use Rattle.civil_base.specs.Instants.{seconds_of}
 use Rattle.zone_replies.specs.Skips.{skipping, skips}
 use Rattle.zone_replies.proofs.LocalLemmas.{at_utc}

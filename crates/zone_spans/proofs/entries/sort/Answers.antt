@@ -2,7 +2,7 @@ use Rattle.std.proofs.Common.{rules, ℤ, ◌∙◌, ap}
 use Rattle.std.proofs.lemmas.Result.{IfOk-equal, IfOk-weaker}
 use Rattle.std.proofs.lemmas.List.Sorted.{answers_always}
 use Rattle.std.specs.List.{list_all}
-use Rattle.owned.specs.Sorted.{stable_sort}
+use Rattle.basics.specs.Sorted.{stable_sort}
 use Rattle.zone_spans.specs.Bounds.{is_bounded_entry}
 use Rattle.zone_spans.specs.Entries.{Entry, is_sooner}
 use Rattle.zone_spans.proofs.EntryLemmas.{sooner_is, sorted_passes}

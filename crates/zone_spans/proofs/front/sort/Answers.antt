@@ -1,7 +1,7 @@
 use Rattle.std.proofs.Common.{rules, ℤ}
 use Rattle.std.proofs.lemmas.Result.{IfOk-equal}
 use Rattle.std.proofs.lemmas.List.Sorted.{answers_always}
-use Rattle.owned.specs.Sorted.{stable_sort}
+use Rattle.basics.specs.Sorted.{stable_sort}
 use Rattle.zone_spans.specs.Placed.{Placed}
 use Rattle.zone_spans.proofs.PlacedLemmas.{below_is}
 use Rattle.zone_spans.proofs.front.sort.Goals as goal

@@ -1,6 +1,6 @@
 use Rattle.std.proofs.Common.{◌≡◌, ◌-ℤ◌, ◌<ℤ◌, suc, ◌+◌, arith, rules, w64, to_z-of_z, FitsSigned, ap, ◌∙◌}
 use Rattle.std.proofs.lemmas.Int.{ints}
-use Rattle.calendar.specs.ComparisonLaws.{lt_from_pass, lt_from_fail}
+use Rattle.basics.specs.ComparisonLaws.{lt_from_pass, lt_from_fail}
 use Rattle.tz_zone.specs.Sets.{shifts_of}
 use Rattle.tz_zone.specs.Spans.{shift_at}
 use Rattle.zone_tail.specs.LastYear.{year_begin, year_end}

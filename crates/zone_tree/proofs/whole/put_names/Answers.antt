@@ -1,6 +1,6 @@
 use Rattle.std.proofs.Common.{subst, sym}
-use Rattle.owned.specs.InOrderLaws.{RisesStrictly, rises-keys}
-use Rattle.owned.specs.Keyed.{text_cmp}
+use Rattle.basics.specs.InOrderLaws.{RisesStrictly, rises-keys}
+use Rattle.basics.specs.Keyed.{text_cmp}
 use Rattle.zone_tree.specs.Told.{IsWhy}
 use Rattle.zone_tree.proofs.TreeLemmas.{one_step, first_step, all_steps}
 use Rattle.zone_tree.proofs.whole.put_names.Goals as goal

@@ -1,5 +1,5 @@
 use Rattle.std.proofs.Common.{◌≡◌, ◌++◌, FitsSigned, w32, rules, to_z-of_z, OnOk, string_bytes, ◌∙◌, subst}
-use Rattle.calendar.specs.Days.{days_in_month}
+use Rattle.basics.specs.Days.{days_in_month}
 use Rattle.zone_tzif.specs.Tried.{moment_text, parts_text, week_of}
 use Rattle.zone_tzif.proofs.text.add_moment.Goals as goal
 

@@ -1,5 +1,5 @@
 use Rattle.std.proofs.Common.{◌≤◌, length, ◌<ℤ◌, FitsSigned, w64, rules, to_z-of_z, subst, arith}
-use Rattle.calendar.specs.ComparisonLaws.{lt_from_pass}
+use Rattle.basics.specs.ComparisonLaws.{lt_from_pass}
 use Rattle.zone_tzif.proofs.FrontLemmas.{count_is}
 use Rattle.zone_tzif.proofs.until.count_until.Goals as goal
 

@@ -1,5 +1,5 @@
 use Rattle.std.proofs.Common.{◌≡◌, suc, ◌+◌, ◌<◌, length, ◌≤ℤ◌, w64, to_z-of_z, FitsSigned, rules, refl, ap, ◌∙◌, arith}
-use Rattle.calendar.specs.ComparisonLaws.{le_from_pass}
+use Rattle.basics.specs.ComparisonLaws.{le_from_pass}
 use Rattle.tz_tzif.specs.FooterShown.{footer_shown}
 use Rattle.tz_lookup.specs.YearSeconds.{rules_begin}
 use Rattle.tz_zone.specs.Sets.{shifts_of, total_of_span}

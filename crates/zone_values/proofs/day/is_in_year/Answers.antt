@@ -1,6 +1,6 @@
 use Rattle.std.proofs.Common.{◌≡◌, pos, ◌+ℤ◌, arith, w32}
 use Rattle.std.proofs.lemmas.Int.{ints}
-use Rattle.calendar.specs.Days.{day}
+use Rattle.basics.specs.Days.{day}
 use Rattle.zone_values.specs.Days.{is_in_year}
 use mir.Val.{of_z, to_z}
 use Rattle.zone_values.proofs.day.is_in_year.Goals as goal

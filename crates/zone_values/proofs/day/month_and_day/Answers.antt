@@ -1,6 +1,6 @@
 use Rattle.std.proofs.Common.{◌≡◌, pos, arith, w8, w32}
 use Rattle.std.proofs.lemmas.Int.{ints}
-use Rattle.calendar.specs.MonthLaws.{days_in_month-bounds}
+use Rattle.basics.specs.MonthLaws.{days_in_month-bounds}
 use mir.Val.{of_z, to_z}
 use Rattle.zone_values.proofs.day.month_and_day.Goals as goal
 

@@ -1,5 +1,5 @@
 use Rattle.std.proofs.Common.{rules, arith, FitsSigned, to_z-of_z, ◌∙◌, w32, ◌≡◌, ◌≤◌, ℤ, ◌-ℤ◌, to_z, of_z, w64, unsigned_abs}
-use Rattle.calendar.specs.SignedLaws.{signed_casts, one_sided}
+use Rattle.basics.specs.SignedLaws.{signed_casts, one_sided}
 use Rattle.civil_base.specs.Ranges.{IsDay}
 use Rattle.civil_base.proofs.date.Date.checked_sub.Goals as goal
 

@@ -1,5 +1,5 @@
 use Rattle.std.proofs.Common.{arith, ◌≡◌, pos, neg_ℤ, to_z, of_z, w32}
-use Rattle.calendar.specs.SignedLaws.{signed_casts}
+use Rattle.basics.specs.SignedLaws.{signed_casts}
 use Rattle.civil_base.specs.DayRangeLaws.{counted-first, counted-last, day-ends, day-counted}
 use Rattle.civil_base.proofs.date.Date.to_calendar_date.Goals as goal
 

@@ -1,7 +1,7 @@
 use Rattle.std.proofs.Common.{rules, arith, ◌≡◌, pos, to_z, of_z, to_z-of_z, FitsSigned, w32, ap, ◌∙◌, unsigned_abs}
-use Rattle.calendar.specs.Dates.{year_of}
-use Rattle.calendar.specs.MonthLaws.{days_in_year-bounds}
-use Rattle.calendar.specs.SignedLaws.{signed_casts}
+use Rattle.basics.specs.Dates.{year_of}
+use Rattle.basics.specs.MonthLaws.{days_in_year-bounds}
+use Rattle.basics.specs.SignedLaws.{signed_casts}
 use Rattle.civil_base.specs.Ordinals.{ordinal_of}
 use Rattle.civil_base.specs.Ranges.{IsDay}
 use Rattle.civil_base.specs.DayLaws.{date_of-day}

@@ -1,5 +1,5 @@
 use Rattle.std.proofs.Common.{arith, ◌≡◌, ℤ, ap, ◌∙◌, to_z-of_z}
-use Rattle.calendar.specs.SignedLaws.{signed}
+use Rattle.basics.specs.SignedLaws.{signed}
 use Rattle.civil_base.specs.Instants.{local_at, instant_at}
 use Rattle.civil_base.specs.DateTimes.{instant}
 use Rattle.civil_base.proofs.DateTimeLemmas.{instant-parts}

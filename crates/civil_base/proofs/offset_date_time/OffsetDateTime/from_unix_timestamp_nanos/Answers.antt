@@ -1,5 +1,5 @@
 use Rattle.std.proofs.Common.{arith, to_z-of_z}
-use Rattle.calendar.specs.SignedLaws.{signed}
+use Rattle.basics.specs.SignedLaws.{signed}
 use Rattle.civil_base.proofs.DateTimeLemmas.{instant-parts}
 use Rattle.civil_base.proofs.offset_date_time.OffsetDateTime.from_unix_timestamp_nanos.Goals as goal
 

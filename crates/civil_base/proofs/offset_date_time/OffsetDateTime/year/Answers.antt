@@ -1,5 +1,5 @@
 use Rattle.std.proofs.Common.{arith}
-use Rattle.calendar.specs.SignedLaws.{signed_casts}
+use Rattle.basics.specs.SignedLaws.{signed_casts}
 use Rattle.civil_base.specs.DateTimes.{local_of}
 use Rattle.civil_base.proofs.offset_date_time.OffsetDateTime.year.Goals as goal
 

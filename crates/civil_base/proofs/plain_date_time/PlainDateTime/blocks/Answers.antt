@@ -1,5 +1,5 @@
 use Rattle.std.proofs.Common.{arith}
-use Rattle.calendar.specs.SignedLaws.{signed_casts}
+use Rattle.basics.specs.SignedLaws.{signed_casts}
 use Rattle.civil_base.specs.RangeLaws.{years_begin, years_end}
 use Rattle.civil_base.proofs.plain_date_time.PlainDateTime.blocks.Goals as goal
 

@@ -1,5 +1,5 @@
 use Rattle.std.proofs.Common.{arith, ◌≡◌, ℕ, ◌/◌, ℤ, pos, ◌+ℤ◌, ◌-ℤ◌, to_z, of_z, w32, ◌∙◌}
-use Rattle.calendar.specs.SignedLaws.{signed_casts}
+use Rattle.basics.specs.SignedLaws.{signed_casts}
 use Rattle.civil_base.specs.Layout.{day_part}
 use Rattle.civil_base.specs.Ranges.{IsDay}
 use Rattle.civil_base.specs.PartLaws.{day_part-blocks, day_part-inside}

@@ -1,5 +1,5 @@
 use Rattle.std.proofs.Common.{arith, ◌≡◌, ◌≤◌, ◌*◌, ℤ, unsigned_abs}
-use Rattle.calendar.specs.SignedLaws.{signed, signed_casts, one_sided}
+use Rattle.basics.specs.SignedLaws.{signed, signed_casts, one_sided}
 use Rattle.civil_base.specs.Instants.{instant_at}
 use Rattle.civil_base.specs.Ranges.{IsInYears, IsOffset, far_seconds}
 use Rattle.civil_base.specs.RangeLaws.{years_begin, years_end, offset_size}

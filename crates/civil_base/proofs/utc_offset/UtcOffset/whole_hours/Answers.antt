@@ -1,5 +1,5 @@
 use Rattle.std.proofs.Common.{arith}
-use Rattle.calendar.specs.SignedLaws.{signed_casts}
+use Rattle.basics.specs.SignedLaws.{signed_casts}
 use Rattle.civil_base.specs.RangeLaws.{offset_size}
 use Rattle.civil_base.proofs.utc_offset.UtcOffset.whole_hours.Goals as goal
 

@@ -1,6 +1,6 @@
 use Rattle.std.proofs.Common.{arith, ◌≡◌, ℤ, ◌+ℤ◌, to_z, of_z}
 use mir.Syntax.{w128}
-use Rattle.calendar.specs.SignedLaws.{signed_casts}
+use Rattle.basics.specs.SignedLaws.{signed_casts}
 use Rattle.civil_parts.specs.Durations.{IsDuration}
 use Rattle.civil_parts.proofs.signed_duration.SignedDuration.checked_add.Goals as goal
 

@@ -1,7 +1,7 @@
 use Rattle.std.proofs.Common.{arith, ◌≡◌, ◌≤◌, true, ℤ, pos, ◌+ℤ◌, ◌*ℤ◌, to_z, of_z, to_z-of_z, FitsSigned, w32, w64, unsigned_abs, ◌∙◌, sym}
 use mir.Syntax.{w128}
 use Rattle.std.proofs.lemmas.Bool.{and_parts, leb-true}
-use Rattle.calendar.specs.SignedLaws.{signed_casts, one_sided}
+use Rattle.basics.specs.SignedLaws.{signed_casts, one_sided}
 use Rattle.civil_parts.specs.Durations.{IsDuration, are_parts}
 use Rattle.civil_parts.proofs.signed_duration.SignedDuration.from_parts.Goals as goal
 

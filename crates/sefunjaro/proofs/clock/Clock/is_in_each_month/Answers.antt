@@ -1,5 +1,5 @@
 use Rattle.std.proofs.Common.{FitsSigned, w32, rules, to_z-of_z, subst, arith}
-use Rattle.calendar.specs.MonthLaws.{days_in_month-bounds}
+use Rattle.basics.specs.MonthLaws.{days_in_month-bounds}
 use Rattle.civil_base.specs.Ranges.{IsYear}
 use Rattle.sefunjaro.proofs.clock.Clock.is_in_each_month.Goals as goal
 

@@ -1,7 +1,7 @@
 use Rattle.std.proofs.Common.{map, sym, ap, ◌∙◌, subst}
 use Rattle.std.specs.List.{list_all}
-use Rattle.owned.specs.InOrderLaws.{RisesStrictly}
-use Rattle.owned.specs.Keyed.{text_cmp}
+use Rattle.basics.specs.InOrderLaws.{RisesStrictly}
+use Rattle.basics.specs.Keyed.{text_cmp}
 use Rattle.tz_lookup.specs.Databases.{found_as, found_in, names_of, resolves}
 use Rattle.tz_lookup.specs.declared.database.Known.{Known}
 use Rattle.tz_lookup.proofs.DatabaseLemmas.{map-twice, names_found, names_resolve}

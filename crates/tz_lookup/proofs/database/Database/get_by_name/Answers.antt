@@ -7,8 +7,8 @@ use Rattle.std.specs.Str.{bytes_eq}
 use Rattle.std.proofs.lemmas.Cmp.{nat_list_cmp_total}
 use Rattle.std.proofs.lemmas.Fn.{always_returns_same}
 use Rattle.std.proofs.lemmas.List.Sorted.{searchable_from_sorted}
-use Rattle.owned.specs.InOrderLaws.{RisesStrictly}
-use Rattle.owned.specs.Keyed.{text_cmp}
+use Rattle.basics.specs.InOrderLaws.{RisesStrictly}
+use Rattle.basics.specs.Keyed.{text_cmp}
 use Rattle.tz_lookup.specs.declared.database.Known.{Known}
 use Rattle.tz_zone.specs.declared.set.FixedTimespanSet.{FixedTimespanSet}
 use Rattle.tz_lookup.proofs.DatabaseLemmas.{find-map, found_at, map-twice, names_sorted, none_beside}

@@ -1,5 +1,5 @@
 use Rattle.std.proofs.Common.{arith, ◌≡◌, ℤ, w32, to_z, of_z, pos, ◌-ℤ◌}
-use Rattle.calendar.specs.SignedLaws.{one_sided, signed, signed_casts}
+use Rattle.basics.specs.SignedLaws.{one_sided, signed, signed_casts}
 use Rattle.civil_base.specs.RangeLaws.{offset_by_size}
 use Rattle.tz_posix.specs.Seconds.{east_of}
 use Rattle.tz_posix.proofs.OffsetLemmas.{offset_seconds-within}

@@ -2,7 +2,7 @@
 use Rattle.std.proofs.Common.{◌≡◌, ℤ, pos, ◌*ℤ◌, List, IfSome, FitsSigned, w32, to_z-of_z, rules, sym, ap, ◌∙◌, subst, arith}
 use Rattle.std.specs.Prelude.{option_map}
 use Rattle.std.specs.Int.{int_div_euclid}
-use Rattle.calendar.specs.SignedLaws.{signed}
+use Rattle.basics.specs.SignedLaws.{signed}
 use Rattle.civil_base.specs.Instants.{nanos_of, seconds_of}
 use Rattle.civil_base.specs.Ranges.{IsOffset}
 use Rattle.tz_tzif.proofs.FooterSaidLemmas.{said}

@@ -1,5 +1,5 @@
 use Rattle.std.specs.FinMap.{get-empty}
-use Rattle.owned.specs.Keyed.{text_cmp}
+use Rattle.basics.specs.Keyed.{text_cmp}
 use Rattle.zone_answers.proofs.opened.Zones.new.Goals as goal
 
 pub returns-clause-opened : goal.returns-clause-opened

@@ -1,6 +1,6 @@
 use Rattle.std.proofs.Common.{◌≡◌, ◌≤ℤ◌, sym, subst, to_z, of_z, w64, SFits, rules}
 use Rattle.std.proofs.lemmas.Int.{to_z-of_z}
-use Rattle.calendar.specs.ComparisonLaws.{le_pass, lt_from_fail}
+use Rattle.basics.specs.ComparisonLaws.{le_pass, lt_from_fail}
 use Rattle.tz_zone.specs.Sets.{IsAccepted, schedule_of}
 use Rattle.tz_ever.specs.EverShown.{ever_seen}
 use Rattle.tz_ever.specs.Unrolled.{unrolled}

@@ -4,9 +4,9 @@ use Rattle.std.specs.List.{flat_map}
 use Rattle.std.specs.List.Sorted.{IsStrictlySortedBy}
 use Rattle.std.specs.Map.Iter.{deref}
 use Rattle.std.proofs.lemmas.List.{map-append}
-use Rattle.owned.specs.InOrder.{in_order}
-use Rattle.owned.specs.Keyed.{text_cmp}
-use Rattle.owned.specs.InOrderLaws.{sorted_in_order, any-in_order}
+use Rattle.basics.specs.InOrder.{in_order}
+use Rattle.basics.specs.Keyed.{text_cmp}
+use Rattle.basics.specs.InOrderLaws.{sorted_in_order, any-in_order}
 use Rattle.zone_table.specs.NameTree.{children_in, tree_of, name_tree}
 use Rattle.zone_table.specs.Placed.{placed_cmp, placed_value}
 use Rattle.zone_table.proofs.TreeLemmas.{placed_total, placed_same, same_tree, same_names, same_children, names_sorted}

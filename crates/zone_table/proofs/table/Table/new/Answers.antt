@@ -1,6 +1,6 @@
 use Rattle.std.proofs.Common.{ap, ◌∙◌}
 use Rattle.std.specs.FinMap.{get, get-empty}
-use Rattle.owned.specs.Keyed.{text_cmp}
+use Rattle.basics.specs.Keyed.{text_cmp}
 use Rattle.zone_table.proofs.table.Table.new.Goals as goal
 
 pub returns : goal.returns

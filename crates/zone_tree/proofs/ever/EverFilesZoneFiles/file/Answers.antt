@@ -1,6 +1,6 @@
 use Rattle.std.proofs.Common.{◌≡◌, ◌<◌, length, get_or, Ok, IfOk, IfErr, true, false, ap, sym, subst, ◌∙◌, arith}
 use Rattle.std.specs.Prelude.{bytes_eq}
-use Rattle.ustar.specs.Entries.{of_file}
+use Rattle.zone_tree.specs.ArchiveEntries.{of_file}
 use Rattle.zone_tree.specs.EverTold.{made_shown}
 use Rattle.zone_tree.specs.Told.{IsWhy}
 use Rattle.zone_tree.specs.declared.ever.Made.{Made}

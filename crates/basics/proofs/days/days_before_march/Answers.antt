@@ -1,0 +1,9 @@
+use Rattle.std.proofs.Common.{arith}
+use Rattle.basics.specs.YearLaws.{days_in_year-cases}
+use Rattle.basics.proofs.days.days_before_march.Goals as goal
+
+pub returns-then-is_leap_year-clause-value : goal.returns-then-is_leap_year-clause-value
+returns-then-is_leap_year-clause-value c = grind (arith, days_in_year-cases c.args.year)
+
+pub returns-else-is_leap_year-clause-value : goal.returns-else-is_leap_year-clause-value
+returns-else-is_leap_year-clause-value c = grind (arith, days_in_year-cases c.args.year)

@@ -1,8 +1,0 @@
-use Rattle.std.proofs.Common.{arith}
-use Rattle.calendar.specs.Weekdays.{weekday_of}
-use Rattle.calendar.specs.SignedLaws.{signed_casts}
-use Rattle.calendar.proofs.days.weekday.Goals as goal
-
-pub returns-clause-value : goal.returns-clause-value
-unfolding weekday_of
-returns-clause-value c = omega (arith, signed_casts)

@@ -1,6 +1,0 @@
-pub mod KeyRows
-pub mod KeyedMaps
-pub mod DistinctKeys
-pub mod Permuted
-pub mod SortedRows
-pub mod StableSorts

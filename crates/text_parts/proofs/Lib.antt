@@ -1,3 +1,0 @@
-pub mod MarkLemmas
-pub mod NumberLemmas
-mod WorkedParts

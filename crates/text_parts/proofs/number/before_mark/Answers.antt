@@ -1,7 +1,0 @@
-use Rattle.std.proofs.lemmas.Str.Pattern.{strip_suffix_char}
-use Rattle.text_parts.proofs.MarkLemmas.{suffixed}
-use Rattle.text_parts.proofs.number.before_mark.Goals as goal
-
-pub returns : goal.returns
-returns c = suffixed c.args.mark c.args.text.now c.strip_suffix.result
-    (strip_suffix_char c.args.mark c.args.text.now _ c.strip_suffix.ensures.cases c.requires)

@@ -1,7 +1,0 @@
-use Rattle.std.proofs.Common.{◌∙◌}
-use Rattle.text_parts.proofs.NumberLemmas.{signed_read}
-use mir.Syntax.{w8}
-use Rattle.text_parts.proofs.number.i8_in.Goals as goal
-
-pub returns : goal.returns
-returns c = c.ok.ensures.value ∙ signed_read w8 c.args.text.now c.parse.result c.parse.ensures.value.0

@@ -1,6 +1,0 @@
-use Rattle.std.proofs.Common.{◌∙◌}
-use Rattle.text_parts.proofs.NumberLemmas.{digits_read}
-use Rattle.text_parts.proofs.number.u8_of_digits.Goals as goal
-
-pub returns : goal.returns
-returns c = c.ok.ensures.value ∙ digits_read 8 c.args.digits.now c.parse.result c.parse.ensures.value.0 c.requires
