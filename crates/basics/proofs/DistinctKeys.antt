@@ -1,12 +1,6 @@
 -- Keys that differ: in order they strictly rise.
-use Rattle.std.proofs.Common.{◌≡◌, Bool, false, List, [], ◌∷◌, map, cond, refl, ap, ◌∙◌, subst}
-use Rattle.std.specs.declared.cmp.Ordering.{Ordering}
-use Rattle.std.specs.Cmp.{IsTotalOrder, eq_by_cmp_equiv}
-use Rattle.std.specs.List.{AllByRecursion, IsDistinct, dedup_from}
-use Rattle.std.specs.List.Sorted.{IsStrictlySortedBy, IsSorted}
-use Rattle.std.specs.Ordering.{eq_by_cmp}
-use Rattle.std.proofs.lemmas.List.Kept.{IsStrictlySortedBy-dedup}
-use Rattle.std.proofs.lemmas.Map.Keys.{IsDistinct-head, IsDistinct-tail}
+use Rattle.std.proofs.{Common.{◌≡◌, Bool, false, List, [], ◌∷◌, map, cond, refl, ap, ◌∙◌, subst}, lemmas.List.Kept.{IsStrictlySortedBy-dedup}, lemmas.Map.Keys.{IsDistinct-head, IsDistinct-tail}}
+use Rattle.std.specs.{declared.cmp.Ordering.{Ordering}, Cmp.{IsTotalOrder, eq_by_cmp_equiv}, List.{AllByRecursion, IsDistinct, dedup_from}, List.Sorted.{IsStrictlySortedBy, IsSorted}, Ordering.{eq_by_cmp}}
 
 -- a list is distinct where what it shows is
 apart_unviewed : {X K : Type 0} (F : K → K → Bool) (view : X → K) (x : X) (ys : List X)

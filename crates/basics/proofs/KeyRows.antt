@@ -1,10 +1,6 @@
 -- Texts in the order of their bytes, each once; lists that a map has only where they aren't empty; texts by their bytes.
-use Rattle.std.proofs.Common.{◌≡◌, ℕ, true, false, [], ◌∷◌, Some, None, map, refl}
-use Rattle.std.specs.Prelude.{codes}
-use Rattle.basics.specs.Bytes.{are_same_bytes}
-use Rattle.basics.specs.InOrder.{in_order}
-use Rattle.basics.specs.Keyed.{text_cmp}
-use Rattle.basics.specs.Listed.{listed}
+use Rattle.std.{proofs.Common.{◌≡◌, ℕ, true, false, [], ◌∷◌, Some, None, map, refl}, specs.Prelude.{codes}}
+use Rattle.basics.specs.{Bytes.{are_same_bytes}, InOrder.{in_order}, Keyed.{text_cmp}, Listed.{listed}}
 
 -- a text comes before those that go on after it, and capitals before small letters
 ordered : in_order text_cmp (codes "b" ∷ codes "ab" ∷ codes "a" ∷ codes "b" ∷ codes "B" ∷ [])

@@ -1,19 +1,9 @@
 -- What `keyed` has at a text, and after a change at one text.
-use Rattle.std.proofs.Common.{◌≡◌, ℕ, Bool, true, List, [], ◌∷◌, Some, cond, refl, sym, ◌∙◌, subst, string_bytes}
-use Rattle.std.specs.Prelude.{IfSome}
-use Rattle.std.specs.declared.string.String.{String}
-use Rattle.std.specs.List.{IsDistinct, list_all}
-use Rattle.std.specs.Map.{lookup, keys_of, values_of}
-use Rattle.std.specs.Str.{bytes_eq}
-use Rattle.std.specs.String.{string_eq, string_eq_equiv}
-use Rattle.std.specs.Cmp.Lexicographic.{nat_list_cmp_total}
-use Rattle.std.specs.HashMap.{HashMap, UpdatesBy}
-use Rattle.std.specs.FinMap.{FinMap, get, insert, find, same_map, get-insert, get-from_entries, slice_cmp-IsAntisymmetric, nat_cmp-IsAntisymmetric}
-use Rattle.std.proofs.lemmas.List.Sums.{AllPass-from_list_all, list_all-from_AllPass}
-use Rattle.std.proofs.lemmas.Map.Text.{is_eq-slice_cmp, hash_map_updates_text}
+use Rattle.std.proofs.{Common.{◌≡◌, ℕ, Bool, true, List, [], ◌∷◌, Some, cond, refl, sym, ◌∙◌, subst, string_bytes}, lemmas.List.Sums.{AllPass-from_list_all, list_all-from_AllPass}, lemmas.Map.Text.{is_eq-slice_cmp, hash_map_updates_text}}
 use Rattle.std.proofs.lemmas.Map.Views.{All-values_from_lookup, IfSome-lookup_from_All}
-use Rattle.basics.specs.Keyed.{text_cmp, keyed, by_bytes, EachPasses}
-use Rattle.basics.specs.KeyedLaws.{tied_texts}
+use Rattle.std.specs.{Prelude.{IfSome}, declared.string.String.{String}, List.{IsDistinct, list_all}, Map.{lookup, keys_of, values_of}, Str.{bytes_eq}, String.{string_eq, string_eq_equiv}, Cmp.Lexicographic.{nat_list_cmp_total}, HashMap.{HashMap, UpdatesBy}}
+use Rattle.std.specs.FinMap.{FinMap, get, insert, find, same_map, get-insert, get-from_entries, slice_cmp-IsAntisymmetric, nat_cmp-IsAntisymmetric}
+use Rattle.basics.specs.{Keyed.{text_cmp, keyed, by_bytes, EachPasses}, KeyedLaws.{tied_texts}}
 
 find-by_bytes : {Y X : Type 0} (es : List (String Y × X)) (q : List ℕ)
     → find text_cmp q (by_bytes es) ≡ lookup (λ k. bytes_eq q (string_bytes k)) es

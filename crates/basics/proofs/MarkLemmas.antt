@@ -1,7 +1,5 @@
 -- What `strip_prefix` and `strip_suffix` give at an ASCII character is what the definitions say.
-use Rattle.std.proofs.Common.{◌≡◌, ℕ, List, [], ◌∷◌, ◌++◌, Option, Some, None, option_map, Bor, refl, sym, ap, ◌∙◌, eq-eqb, eqb-true}
-use Rattle.std.proofs.lemmas.Bool.{false_from_ne_true, cond-false}
-use Rattle.std.specs.Option.{MatchOption}
+use Rattle.std.{proofs.Common.{◌≡◌, ℕ, List, [], ◌∷◌, ◌++◌, Option, Some, None, option_map, Bor, refl, sym, ap, ◌∙◌, eq-eqb, eqb-true}, proofs.lemmas.Bool.{false_from_ne_true, cond-false}, specs.Option.{MatchOption}}
 use Rattle.basics.specs.Marks.{after_mark, before_mark}
 
 pub stripped : (mark : ℕ) (text : List ℕ) (r : Option (Bor (List ℕ)))

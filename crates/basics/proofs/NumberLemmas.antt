@@ -1,15 +1,9 @@
 -- What `parse` reads of a number is what the definitions say.
-use Rattle.std.proofs.Common.{◌≡◌, ℕ, ◌<◌, ◌^◌, ◌&&◌, List, length, true, cond, Some, None, refl, sym, Result, Ok, Err, ℤ, nat_lt, lt-ltb, ltb-true}
-use Rattle.std.proofs.lemmas.Bool.{false_from_ne_true, and_parts, cond-false}
-use Rattle.std.proofs.lemmas.Str.Parse.{parse_digits}
-use Rattle.std.specs.Result.{result_ok, OkIff}
-use Rattle.std.specs.Char.{is_ascii_digit}
-use Rattle.std.specs.List.{list_all}
-use Rattle.std.specs.Str.Parse.{ParsesSigned, ParsesUnsigned, digits_value, without_leading_sign}
+use Rattle.std.proofs.{Common.{◌≡◌, ℕ, ◌<◌, ◌^◌, ◌&&◌, List, length, true, cond, Some, None, refl, sym, Result, Ok, Err, ℤ, nat_lt, lt-ltb, ltb-true}, lemmas.Bool.{false_from_ne_true, and_parts, cond-false}, lemmas.Str.Parse.{parse_digits}}
+use Rattle.std.specs.{Result.{result_ok, OkIff}, Char.{is_ascii_digit}, List.{list_all}, Str.Parse.{ParsesSigned, ParsesUnsigned, digits_value, without_leading_sign}}
 use mir.Syntax.{Width}
 use mir.Val.{hbits}
-use Rattle.basics.specs.NumberLaws.{digits}
-use Rattle.basics.specs.Numbers.{is_numeral, signed_in, value_in}
+use Rattle.basics.specs.{NumberLaws.{digits}, Numbers.{is_numeral, signed_in, value_in}}
 
 -- `parse` at any width reads the number, or fails where there is none
 pub signed_read : {E : Type 0} (w : Width) (text : List ℕ) (r : Result ℤ E) → ParsesSigned w 10 text r →

@@ -1,21 +1,10 @@
 -- The entries of a hashed map and those of its finite map are the same, in another order.
 use Rattle.std.proofs.Common.{◌≡◌, Bool, false, not, List, [], ◌∷◌, map, Option, Some, None, cond, refl, sym, ap, ◌∙◌, subst, string_bytes, length, arith}
-use Rattle.std.specs.declared.cmp.Ordering.{Ordering}
-use Rattle.std.specs.declared.cmp.Ordering.TheVariants.{Less, Equal, Greater}
-use Rattle.std.specs.declared.string.String.{String}
-use Rattle.std.specs.Cmp.Lexicographic.{nat_list_cmp_total}
-use Rattle.std.specs.FinMap.{empty, entries, entries-insert, get-entries, get-from_entries, len-entries, len-empty, find, put}
-use Rattle.std.specs.FinMap.Entries.{by_order}
-use Rattle.std.specs.List.{AllByRecursion, IsDistinct, list_all}
-use Rattle.std.specs.List.Sorted.{IsPermutation}
-use Rattle.std.specs.Map.{keys_of}
-use Rattle.std.specs.Ordering.{is_eq}
-use Rattle.std.specs.String.{string_eq}
-use Rattle.std.proofs.lemmas.List.Sorted.{IsPermutation-refl, IsPermutation-sym, IsPermutation-trans, IsPermutation-cons, IsPermutation-middle, list_any-IsPermutation}
-use Rattle.std.proofs.lemmas.Map.Keys.{IsDistinct-head, IsDistinct-tail}
-use Rattle.std.proofs.lemmas.Map.Text.{is_eq-slice_cmp}
-use Rattle.basics.specs.Keyed.{text_cmp, keyed, by_bytes}
-use Rattle.basics.specs.TestLaws.{all_by_any}
+use Rattle.std.proofs.lemmas.{List.Sorted.{IsPermutation-refl, IsPermutation-sym, IsPermutation-trans, IsPermutation-cons, IsPermutation-middle, list_any-IsPermutation}, Map.Keys.{IsDistinct-head, IsDistinct-tail}, Map.Text.{is_eq-slice_cmp}}
+use Rattle.std.specs.{declared.cmp.Ordering.{Ordering}, declared.cmp.Ordering.TheVariants.{Less, Equal, Greater}, declared.string.String.{String}, Cmp.Lexicographic.{nat_list_cmp_total}}
+use Rattle.std.specs.{FinMap.{empty, entries, entries-insert, get-entries, get-from_entries, len-entries, len-empty, find, put}, FinMap.Entries.{by_order}, List.{AllByRecursion, IsDistinct, list_all}, List.Sorted.{IsPermutation}, Map.{keys_of}}
+use Rattle.std.specs.{Ordering.{is_eq}, String.{string_eq}}
+use Rattle.basics.specs.{Keyed.{text_cmp, keyed, by_bytes}, TestLaws.{all_by_any}}
 
 nothing : {A : Type 0} (xs : List A) → length xs ≡ 0 → [] ≡ xs
 nothing [] e = refl

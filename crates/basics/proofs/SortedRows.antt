@@ -1,6 +1,5 @@
 -- Lists that are sorted by the definition.
-use Rattle.std.proofs.Common.{◌≡◌, ℕ, [], ◌∷◌, refl}
-use Rattle.std.specs.Ordering.{nat_cmp}
+use Rattle.std.{proofs.Common.{◌≡◌, ℕ, [], ◌∷◌, refl}, specs.Ordering.{nat_cmp}}
 use Rattle.basics.specs.Sorted.{stable_sort, by_key}
 
 -- three times with labels: 7 stands at two labels, which keep their order

@@ -1,11 +1,7 @@
 -- There is one list that rises and in which items that tie stand in the order of another: its stable sort.
-use Rattle.std.proofs.Common.{◌≡◌, ℕ, suc, ◌<◌, ◌≤◌, Bool, true, false, not, ◌&&◌, cond, List, [], ◌∷◌, length, get_or, filter, refl, sym, ap, ◌∙◌, arith}
-use Rattle.std.specs.Cmp.{IsStrictWeakOrder}
-use Rattle.std.specs.List.Sorted.{IsSortedBy, IsStableBy, ties}
-use Rattle.std.proofs.lemmas.List.Sorted.{sorted_far}
-use Rattle.std.proofs.lemmas.Bool.{false≢true, and_parts, not-true}
-use Rattle.basics.specs.Sorted.{put_in, stable_sort}
-use Rattle.basics.specs.SortedLaws.{NoneBelow, Rises, Rises-stable_sort}
+use Rattle.std.proofs.{Common.{◌≡◌, ℕ, suc, ◌<◌, ◌≤◌, Bool, true, false, not, ◌&&◌, cond, List, [], ◌∷◌, length, get_or, filter, refl, sym, ap, ◌∙◌, arith}, lemmas.List.Sorted.{sorted_far}, lemmas.Bool.{false≢true, and_parts, not-true}}
+use Rattle.std.specs.{Cmp.{IsStrictWeakOrder}, List.Sorted.{IsSortedBy, IsStableBy, ties}}
+use Rattle.basics.specs.{Sorted.{put_in, stable_sort}, SortedLaws.{NoneBelow, Rises, Rises-stable_sort}}
 
 module _ {X : Type 0} (below : X → X → Bool) where
   ties_first : (x y : X) → ties below x y ≡ true → below x y ≡ false

@@ -1,7 +1,6 @@
 -- The definitions evaluated on days that are known from outside.
 use Rattle.std.proofs.Common.{◌≡◌, refl, List, [], ◌∷◌, map, ℤ, pos, neg_ℤ}
-use Rattle.basics.specs.Days.{is_leap, days_in_year, days_in_month, days_after_zero, days_before_zero, year_start, days_through, days_into_year, day}
-use Rattle.basics.specs.Weekdays.{weekday_of}
+use Rattle.basics.specs.{Days.{is_leap, days_in_year, days_in_month, days_after_zero, days_before_zero, year_start, days_through, days_into_year, day}, Weekdays.{weekday_of}}
 
 abbrev day_numbers : List ℤ
 day_numbers =

@@ -1,9 +1,6 @@
 -- Numbers, cut texts and paths at worked rows.
-use Rattle.std.proofs.Common.{◌≡◌, [], ◌∷◌, map, true, false, Some, None, refl, pos, negsuc, ◌^◌}
-use Rattle.std.specs.Prelude.{codes}
-use Rattle.basics.specs.Marks.{after_mark, before_mark, cut}
-use Rattle.basics.specs.Numbers.{is_numeral, signed_in, value_in}
-use Rattle.basics.specs.Paths.{has_parts}
+use Rattle.std.{proofs.Common.{◌≡◌, [], ◌∷◌, map, true, false, Some, None, refl, pos, negsuc, ◌^◌}, specs.Prelude.{codes}}
+use Rattle.basics.specs.{Marks.{after_mark, before_mark, cut}, Numbers.{is_numeral, signed_in, value_in}, Paths.{has_parts}}
 
 -- ---- numbers
 

@@ -1,7 +1,5 @@
 -- Texts by their bytes.
-use Rattle.std.specs.Prelude.{ℕ, Bool, List, nat_eq}
-use Rattle.std.specs.Cmp.{IsEquivalence, IsPartialEquivalence, partial_equiv_from_equiv}
-use Rattle.std.specs.Cmp.Lexicographic.{pointwise, nat_list_eq_equiv}
+use Rattle.std.specs.{Prelude.{ℕ, Bool, List, nat_eq}, Cmp.{IsEquivalence, IsPartialEquivalence, partial_equiv_from_equiv}, Cmp.Lexicographic.{pointwise, nat_list_eq_equiv}}
 
 -- the two texts have the same bytes
 abbrev pub are_same_bytes : List ℕ → List ℕ → Bool

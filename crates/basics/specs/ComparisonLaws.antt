@@ -1,8 +1,5 @@
 -- What the tests of order and of equality on whole numbers say, and how their orders join.
-use Rattle.std.specs.Prelude.{◌≡◌, true, false, ℤ, ◌≤ℤ◌, ◌<ℤ◌, int_le, int_lt}
-use Rattle.std.specs.Ordering.{int_eq}
-use Rattle.std.proofs.Common.{arith}
-use Rattle.std.proofs.lemmas.Int.{ints}
+use Rattle.std.{specs.Prelude.{◌≡◌, true, false, ℤ, ◌≤ℤ◌, ◌<ℤ◌, int_le, int_lt}, specs.Ordering.{int_eq}, proofs.Common.{arith}, proofs.lemmas.Int.{ints}}
 pub use Rattle.std.specs.Int.Signed.{≤ℤ_refl as le_itself}
 
 pub le_pass : (a b : ℤ) → a ≤ℤ b → int_le a b ≡ true

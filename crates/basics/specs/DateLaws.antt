@@ -1,13 +1,7 @@
 -- The parts of a date are found again from its day number.
-use Rattle.std.proofs.Common.{refl, ◌≡◌, ℕ, zero, suc, ◌-◌, ◌<◌, ◌≤◌, inl, inr, Bool, true, false, sym, ap, ◌∙◌, arith, ℤ, pos, neg_ℤ, ◌+ℤ◌, ◌-ℤ◌, ◌≤ℤ◌, ◌<ℤ◌, int_le, unsigned_abs}
-use Rattle.std.proofs.lemmas.Int.{by_lt_z}
-use Rattle.basics.specs.Days.{days_in_year, days_through, days_in_month, days_into_year, day, IsDate, IsCountedYear}
-use Rattle.basics.specs.Dates.{last_with, year_of, month_of, day_of}
-use Rattle.basics.specs.SignedLaws.{signed, natural}
-use Rattle.basics.specs.ComparisonLaws.{le_pass, le_fail, le_from_pass, le_from_fail}
-use Rattle.basics.specs.YearLaws.{day-cycle, cycle_days-rise, cycle_days-suc}
-use Rattle.basics.specs.MonthLaws.{days_through-rise, days_through-step, days_through-all, days_through-two, days_in_month-bounds, days_in_month-december, days_in_year-bounds}
-use Rattle.std.proofs.lemmas.Bool.{cases_lt, cases_Bool}
+use Rattle.std.proofs.{Common.{refl, ◌≡◌, ℕ, zero, suc, ◌-◌, ◌<◌, ◌≤◌, inl, inr, Bool, true, false, sym, ap, ◌∙◌, arith, ℤ, pos, neg_ℤ, ◌+ℤ◌, ◌-ℤ◌, ◌≤ℤ◌, ◌<ℤ◌, int_le, unsigned_abs}, lemmas.Int.{by_lt_z}, lemmas.Bool.{cases_lt, cases_Bool}}
+use Rattle.basics.specs.{Days.{days_in_year, days_through, days_in_month, days_into_year, day, IsDate, IsCountedYear}, Dates.{last_with, year_of, month_of, day_of}, SignedLaws.{signed, natural}, ComparisonLaws.{le_pass, le_fail, le_from_pass, le_from_fail}}
+use Rattle.basics.specs.{YearLaws.{day-cycle, cycle_days-rise, cycle_days-suc}, MonthLaws.{days_through-rise, days_through-step, days_through-all, days_through-two, days_in_month-bounds, days_in_month-december, days_in_year-bounds}}
 
 last_with-pass : (test : ℕ → Bool) (n : ℕ) → test (suc n) ≡ true → last_with test (suc n) ≡ suc n
 unfolding last_with

@@ -1,7 +1,5 @@
 -- The items of a list in an order, each once.
-use Rattle.std.specs.Prelude.{List, [], ◌∷◌}
-use Rattle.std.specs.declared.cmp.Ordering.{Ordering}
-use Rattle.std.specs.BTreeSet.{insert_key}
+use Rattle.std.specs.{Prelude.{List, [], ◌∷◌}, declared.cmp.Ordering.{Ordering}, BTreeSet.{insert_key}}
 
 abbrev pub in_order : {K : Type 0} → (K → K → Ordering) → List K → List K
 in_order cmp [] = []

@@ -1,18 +1,7 @@
 -- Lists that strictly rise: two with the same items are one, so `in_order` is the one with the items of a list.
-use Rattle.std.proofs.Common.{◌≡◌, Bool, true, false, not, List, [], ◌∷◌, map, Some, None, cond, refl, sym, ap, ◌∙◌, subst}
-use Rattle.std.specs.Prelude.{T, ◌||◌, ◌&&◌}
-use Rattle.std.specs.declared.cmp.Ordering.{Ordering}
-use Rattle.std.specs.declared.cmp.Ordering.TheVariants.{Less, Equal, Greater}
-use Rattle.std.specs.Cmp.{IsTotalOrder}
-use Rattle.std.specs.FinMap.{FinMap, IsAntisymmetric, entries, entries_sorted, find, is_sorted, keys, put}
-use Rattle.std.specs.BTreeSet.{insert_key}
-use Rattle.std.specs.FinMap.Entries.{below_all, by_order, is_sorted-put, same_entries}
-use Rattle.std.specs.List.{AllByRecursion, list_any}
-use Rattle.std.specs.List.Sorted.{IsStrictlySortedBy}
-use Rattle.std.specs.Ordering.{is_lt, eq_by_cmp, match_ordering}
-use Rattle.std.proofs.Math.Bool.{or_assoc, or_comm}
-use Rattle.std.proofs.lemmas.Bool.{and_from, and_parts}
-use Rattle.std.proofs.lemmas.Map.Keys.{sorted_head, sorted_tail}
+use Rattle.std.proofs.{Common.{◌≡◌, Bool, true, false, not, List, [], ◌∷◌, map, Some, None, cond, refl, sym, ap, ◌∙◌, subst}, Math.Bool.{or_assoc, or_comm}, lemmas.Bool.{and_from, and_parts}, lemmas.Map.Keys.{sorted_head, sorted_tail}}
+use Rattle.std.specs.{Prelude.{T, ◌||◌, ◌&&◌}, declared.cmp.Ordering.{Ordering}, declared.cmp.Ordering.TheVariants.{Less, Equal, Greater}, Cmp.{IsTotalOrder}, FinMap.{FinMap, IsAntisymmetric, entries, entries_sorted, find, is_sorted, keys, put}}
+use Rattle.std.specs.{BTreeSet.{insert_key}, FinMap.Entries.{below_all, by_order, is_sorted-put, same_entries}, List.{AllByRecursion, list_any}, List.Sorted.{IsStrictlySortedBy}, Ordering.{is_lt, eq_by_cmp, match_ordering}}
 use Rattle.basics.specs.InOrder.{in_order}
 
 -- each item with nothing beside it

@@ -1,10 +1,5 @@
 -- Entries with texts as keys, as a finite map from the bytes of the texts.
-use Rattle.std.specs.Prelude.{ℕ, Bool, List, IsTrue, IfSome, map, string_bytes}
-use Rattle.std.specs.declared.cmp.Ordering.{Ordering}
-use Rattle.std.specs.declared.string.String.{String}
-use Rattle.std.specs.Cmp.Lexicographic.{slice_cmp}
-use Rattle.std.specs.Ordering.{nat_cmp}
-use Rattle.std.specs.FinMap.{FinMap, from_entries, get}
+use Rattle.std.specs.{Prelude.{ℕ, Bool, List, IsTrue, IfSome, map, string_bytes}, declared.cmp.Ordering.{Ordering}, declared.string.String.{String}, Cmp.Lexicographic.{slice_cmp}, Ordering.{nat_cmp}, FinMap.{FinMap, from_entries, get}}
 
 -- the order of texts by their bytes: the first two that differ decide, and else the lengths do
 abbrev pub text_cmp : List ℕ → List ℕ → Ordering

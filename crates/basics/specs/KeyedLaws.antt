@@ -1,14 +1,7 @@
 -- What a map holds at each text after a change at one text.
-use Rattle.std.proofs.Common.{◌≡◌, ℕ, true, false, List, [], ◌∷◌, ◌++◌, Some, unwrap_or, cond, refl, sym, ap, ◌∙◌}
-use Rattle.std.specs.Str.{bytes_eq}
-use Rattle.std.specs.Cmp.{eq_by_cmp_equiv}
-use Rattle.std.specs.Cmp.Lexicographic.{nat_list_cmp_total, bytes_decides}
-use Rattle.std.specs.FinMap.{FinMap, get, insert, get-insert}
-use Rattle.std.specs.Ordering.{eq_by_cmp}
-use Rattle.std.proofs.lemmas.List.{append-nil}
-use Rattle.std.proofs.lemmas.Map.Text.{is_eq-slice_cmp}
-use Rattle.basics.specs.Keyed.{text_cmp}
-use Rattle.basics.specs.Listed.{listed}
+use Rattle.std.proofs.{Common.{◌≡◌, ℕ, true, false, List, [], ◌∷◌, ◌++◌, Some, unwrap_or, cond, refl, sym, ap, ◌∙◌}, lemmas.List.{append-nil}, lemmas.Map.Text.{is_eq-slice_cmp}}
+use Rattle.std.specs.{Str.{bytes_eq}, Cmp.{eq_by_cmp_equiv}, Cmp.Lexicographic.{nat_list_cmp_total, bytes_decides}, FinMap.{FinMap, get, insert, get-insert}, Ordering.{eq_by_cmp}}
+use Rattle.basics.specs.{Keyed.{text_cmp}, Listed.{listed}}
 
 pub tied_texts : (q bs : List ℕ) → eq_by_cmp text_cmp q bs ≡ bytes_eq bs q
 tied_texts q bs = (eq_by_cmp_equiv nat_list_cmp_total).symm q bs ∙ is_eq-slice_cmp bs q

@@ -1,9 +1,5 @@
 -- What a step over an option gave, a case that can't be, and what holds of every item.
-use Rattle.std.specs.Prelude.{◌≡◌, true, false, List, [], ◌∷◌, Option, Some, None}
-use Rattle.std.specs.List.{AllByRecursion}
-use Rattle.std.specs.Option.{option_map, option_and_then}
-use Rattle.std.proofs.Common.{refl}
-use Rattle.std.proofs.lemmas.Option.{same_Some}
+use Rattle.std.{specs.Prelude.{◌≡◌, true, false, List, [], ◌∷◌, Option, Some, None}, specs.List.{AllByRecursion}, specs.Option.{option_map, option_and_then}, proofs.Common.{refl}, proofs.lemmas.Option.{same_Some}}
 
 pub map_some : {A B : Type 0} (f : A → B) (o : Option A) (y : B) → option_map f o ≡ Some y → (x : A) × (o ≡ Some x) × (f x ≡ y)
 map_some f (Some x) y e = (x, refl, same_Some _ _ e)

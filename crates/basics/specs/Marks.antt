@@ -1,6 +1,5 @@
 -- Texts cut at a mark, which is a byte.
-use Rattle.std.specs.Prelude.{ℕ, ◌==◌, List, [], ◌∷◌, length, Option, Some, None, option_map, nat_lt, if◌then◌else◌}
-use Rattle.std.specs.List.{before_first, after_first, position_or_len}
+use Rattle.std.specs.{Prelude.{ℕ, ◌==◌, List, [], ◌∷◌, length, Option, Some, None, option_map, nat_lt, if◌then◌else◌}, List.{before_first, after_first, position_or_len}}
 
 -- what follows the mark, where the text begins with it
 abbrev pub after_mark : ℕ → List ℕ → Option (List ℕ)

@@ -1,8 +1,5 @@
 -- Whole numbers in decimal digits.
-use Rattle.std.specs.Prelude.{ℕ, ℤ, Bool, ◌^◌, ◌&&◌, List, length, Option, Some, None, nat_lt, if◌then◌else◌}
-use Rattle.std.specs.Char.{is_ascii_digit}
-use Rattle.std.specs.List.{list_all}
-use Rattle.std.specs.Str.Parse.{without_leading_sign, digits_value, signed_digits_value}
+use Rattle.std.specs.{Prelude.{ℕ, ℤ, Bool, ◌^◌, ◌&&◌, List, length, Option, Some, None, nat_lt, if◌then◌else◌}, Char.{is_ascii_digit}, List.{list_all}, Str.Parse.{without_leading_sign, digits_value, signed_digits_value}}
 use lib.Signed.{mag}
 
 -- one ASCII digit or more, and nothing else

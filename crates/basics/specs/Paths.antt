@@ -1,6 +1,5 @@
 -- Paths of files, whose parts stand between slashes.
-use Rattle.std.specs.Prelude.{ℕ, ◌==◌, ◌||◌, not, Bool, List, [], bytes_eq, codes}
-use Rattle.std.specs.List.{list_all, slice_split}
+use Rattle.std.specs.{Prelude.{ℕ, ◌==◌, ◌||◌, not, Bool, List, [], bytes_eq, codes}, List.{list_all, slice_split}}
 
 abbrev pub is_slash : ℕ → Bool
 is_slash byte = byte == 47

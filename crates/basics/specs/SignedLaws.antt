@@ -1,6 +1,5 @@
 -- Whole numbers of either sign for `omega`, which reads z as `up z - down z`.
-use Rattle.std.proofs.Common.{◌≡◌, ℕ, ◌+◌, ◌*◌, ◌<◌, ◌≤◌, ◌⊎◌, ◌≤ℤ◌, inl, inr, refl, arith, ℤ, pos, negsuc, of_z, unsigned_abs}
-use Rattle.std.specs.Int.{Width, int_div_euclid, int_rem_euclid}
+use Rattle.std.{proofs.Common.{◌≡◌, ℕ, ◌+◌, ◌*◌, ◌<◌, ◌≤◌, ◌⊎◌, ◌≤ℤ◌, inl, inr, refl, arith, ℤ, pos, negsuc, of_z, unsigned_abs}, specs.Int.{Width, int_div_euclid, int_rem_euclid}}
 use borrow.Author.Differences.{up, down, same_out, Apart-out, lt_out, le_out, lt_T, le_T, lt_not, le_not, lt-true, lt-false, le-true, le-false, same_in, below_in, at_most_in, lt_in, le_in, fits_in, fits_out, sum_is_lem, neg_is, product_is, quot_is, rem_is, back_is, small_is, not_negative_out, not_negative_in}
 
 -- the size of a number

@@ -1,7 +1,5 @@
 -- A list in order by a test, where items that tie stay in the order that they had.
-use Rattle.std.specs.Prelude.{Bool, cond, List, [], ◌∷◌}
-use Rattle.std.specs.declared.cmp.Ordering.{Ordering}
-use Rattle.std.specs.Ordering.{is_lt}
+use Rattle.std.specs.{Prelude.{Bool, cond, List, [], ◌∷◌}, declared.cmp.Ordering.{Ordering}, Ordering.{is_lt}}
 
 -- before the first item that is not below it
 abbrev pub put_in : {X : Type 0} → (X → X → Bool) → X → List X → List X

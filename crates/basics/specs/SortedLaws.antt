@@ -1,6 +1,5 @@
 -- What holds of `stable_sort` by a test that orders the items.
-use Rattle.std.specs.Prelude.{◌≡◌, Bool, true, false, cond, List, [], ◌∷◌, refl}
-use Rattle.std.specs.Cmp.{IsStrictWeakOrder}
+use Rattle.std.specs.{Prelude.{◌≡◌, Bool, true, false, cond, List, [], ◌∷◌, refl}, Cmp.{IsStrictWeakOrder}}
 use Rattle.basics.specs.Sorted.{put_in, stable_sort}
 
 -- no item of the list is below that one

@@ -1,7 +1,5 @@
 -- A test that passes at every item, by one that passes at some.
-use Rattle.std.proofs.Common.{◌≡◌, Bool, true, false, not, List, [], ◌∷◌, refl}
-use Rattle.std.specs.Prelude.{◌||◌, ◌&&◌}
-use Rattle.std.specs.List.{list_all, list_any}
+use Rattle.std.{proofs.Common.{◌≡◌, Bool, true, false, not, List, [], ◌∷◌, refl}, specs.Prelude.{◌||◌, ◌&&◌}, specs.List.{list_all, list_any}}
 
 -- all pass where none fails
 pub all_by_any : {X : Type 0} (test : X → Bool) (xs : List X) → list_all test xs ≡ not (list_any (λ x. not (test x)) xs)

@@ -1,12 +1,6 @@
 -- The weekdays of later days, and the last day with a weekday.
-use Rattle.std.proofs.Common.{◌≡◌, ℕ, ◌+◌, ◌-◌, ◌%◌, ◌<◌, ◌≤◌, arith, eq-eqb, nat_eq, ℤ, pos, ◌+ℤ◌, unsigned_abs}
-use Rattle.std.proofs.lemmas.Bool.Decides.{nat_tests}
-use Rattle.basics.specs.Dates.{last_with}
-use Rattle.basics.specs.DateLaws.{last_with-is, place_of}
-use Rattle.basics.specs.Days.{day, IsCountedYear}
-use Rattle.basics.specs.SignedLaws.{signed, floored}
-use Rattle.basics.specs.Weekdays.{weekday_of}
-use Rattle.basics.specs.YearLaws.{day-cycle}
+use Rattle.std.proofs.{Common.{◌≡◌, ℕ, ◌+◌, ◌-◌, ◌%◌, ◌<◌, ◌≤◌, arith, eq-eqb, nat_eq, ℤ, pos, ◌+ℤ◌, unsigned_abs}, lemmas.Bool.Decides.{nat_tests}}
+use Rattle.basics.specs.{Dates.{last_with}, DateLaws.{last_with-is, place_of}, Days.{day, IsCountedYear}, SignedLaws.{signed, floored}, Weekdays.{weekday_of}, YearLaws.{day-cycle}}
 
 pub weekday_of-small : (k : ℤ) → weekday_of k < 7
 unfolding weekday_of

@@ -1,9 +1,6 @@
 -- The days of years in closed form.
-use Rattle.std.proofs.Common.{◌≡◌, ℕ, zero, suc, ◌+◌, ◌-◌, ◌*◌, ◌/◌, ◌≤◌, Bool, cond, refl, arith, ℤ, pos, negsuc, ◌+ℤ◌, unsigned_abs}
-use Rattle.std.proofs.lemmas.Bool.Decides.{nat_tests}
-use Rattle.basics.specs.Days.{is_leap, days_in_year, days_after_zero, days_before_zero, year_start, day, days_into_year, days_through}
-use Rattle.basics.specs.Cycles.{cycle_days}
-use Rattle.basics.specs.SignedLaws.{signed}
+use Rattle.std.proofs.{Common.{◌≡◌, ℕ, zero, suc, ◌+◌, ◌-◌, ◌*◌, ◌/◌, ◌≤◌, Bool, cond, refl, arith, ℤ, pos, negsuc, ◌+ℤ◌, unsigned_abs}, lemmas.Bool.Decides.{nat_tests}}
+use Rattle.basics.specs.{Days.{is_leap, days_in_year, days_after_zero, days_before_zero, year_start, day, days_into_year, days_through}, Cycles.{cycle_days}, SignedLaws.{signed}}
 
 -- the day that a leap year has more
 abbrev leap_day_of : Bool → ℕ

@@ -1,9 +1,6 @@
 //! Years, months and their lengths, the day numbers of dates and the dates of day numbers, and weekdays.
 ghost use Rattle.std.specs.Prelude.{◌≡◌, ◌+◌, ◌<◌, ◌≤◌, ◌-◌, ℤ, pos, neg_ℤ, ◌+ℤ◌, ◌-ℤ◌, ◌≤ℤ◌};
-ghost use Rattle.basics.specs.Cycles.{cycle_days};
-ghost use Rattle.basics.specs.Days.{is_leap, days_in_month, days_through, days_in_year, IsDate, IsCountedYear, day as date_day};
-ghost use Rattle.basics.specs.Dates.{year_of, month_of, day_of};
-ghost use Rattle.basics.specs.Weekdays.{weekday_of};
+ghost use Rattle.basics.specs.{Cycles.{cycle_days}, Days.{is_leap, days_in_month, days_through, days_in_year, IsDate, IsCountedYear, day as date_day}, Dates.{year_of, month_of, day_of}, Weekdays.{weekday_of}};
 
 /// The first year of a cycle before all years that are counted in.
 pub const FIRST_YEAR: i32 = -11_999;

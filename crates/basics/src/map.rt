@@ -1,15 +1,8 @@
 //! Texts that own their bytes, lists that own their items, and maps from texts.
-ghost use Rattle.std.specs.Prelude.{◌≡◌, IfOk, string_bytes, ◌==◌, ◌<◌, ◌++◌, ◌∷◌, [], OnOk, OnErr, length, take, swap, slice_get, slice_set, slice_index_or, ◌↔◌, Bool, IsTrue, map as each, unwrap_or};
-ghost use Rattle.basics.specs.Bytes.{are_same_bytes, same_bytes_partial_equivalence, same_bytes_equivalence};
-ghost use Rattle.std.specs.Borrow.{Lends, sem};
-ghost use Rattle.std.specs.Fn.{ComputesKey};
-ghost use Rattle.std.specs.List.{remove, list_all};
-ghost use Rattle.std.specs.List.Sorted.{IsPermutation};
-ghost use Rattle.std.specs.Option.{option_copied};
-ghost use Rattle.basics.specs.Sorted.{stable_sort, by_key};
-ghost use Rattle.std.specs.Map.Iter.{ShowsInOrder, deref};
+ghost use Rattle.std.specs.{Prelude.{◌≡◌, IfOk, string_bytes, ◌==◌, ◌<◌, ◌++◌, ◌∷◌, [], OnOk, OnErr, length, take, swap, slice_get, slice_set, slice_index_or, ◌↔◌, Bool, IsTrue, map as each, unwrap_or}, Borrow.{Lends, sem}, Fn.{ComputesKey}};
+ghost use Rattle.std.specs.{List.{remove, list_all}, List.Sorted.{IsPermutation}, Option.{option_copied}, Map.Iter.{ShowsInOrder, deref}};
 ghost use Rattle.std.specs.FinMap as map;
-ghost use Rattle.basics.specs.Keyed.{keyed, EachPasses};
+ghost use Rattle.basics.specs.{Bytes.{are_same_bytes, same_bytes_partial_equivalence, same_bytes_equivalence}, Sorted.{stable_sort, by_key}, Keyed.{keyed, EachPasses}};
 
 use std::alloc::{AllocError, Global};
 use std::collections::HashMap;
@@ -88,8 +81,7 @@ pub struct Items<T> {
 }
 
 impl<T> Model for Items<T> {
-    ghost use Rattle.std.specs.Prelude.{List};
-    ghost use Rattle.std.specs.Coded.{coded_list};
+    ghost use Rattle.std.specs.{Prelude.{List}, Coded.{coded_list}};
 
     ghost Value = { List T };
 
@@ -272,8 +264,8 @@ pub struct TextMap<V> {
 }
 
 impl<V> Model for TextMap<V> {
-    ghost use Rattle.std.specs.FinMap as map;
     ghost use Rattle.std.specs.Coded.{coded_ℕ, coded_list};
+    ghost use Rattle.std.specs.FinMap as map;
     ghost use Rattle.basics.specs.Keyed.{text_cmp, keyed};
 
     ghost Value = { map.FinMap text_cmp V };

@@ -1,10 +1,6 @@
 //! Whole numbers in decimal digits, texts cut at a mark, and the parts of paths.
-ghost use Rattle.std.specs.Prelude.{◌≡◌, ◌^◌, true, ◌<◌, option_map};
-ghost use Rattle.std.specs.Char.{is_ascii_digit};
-ghost use Rattle.std.specs.List.{list_all};
-ghost use Rattle.basics.specs.Numbers.{is_numeral, signed_in, value_in};
-ghost use Rattle.basics.specs.Marks.{after_mark, before_mark, cut};
-ghost use Rattle.basics.specs.Paths.{has_parts, is_no_part};
+ghost use Rattle.std.specs.{Prelude.{◌≡◌, ◌^◌, true, ◌<◌, option_map}, Char.{is_ascii_digit}, List.{list_all}};
+ghost use Rattle.basics.specs.{Numbers.{is_numeral, signed_in, value_in}, Marks.{after_mark, before_mark, cut}, Paths.{has_parts, is_no_part}};
 
 /// Whether the text is of ASCII digits alone, of which there is one at least.
 pub fn is_numeral(text: &str) -> bool

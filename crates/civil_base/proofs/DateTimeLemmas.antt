@@ -1,9 +1,7 @@
 -- Instants, local times and offsets of one value.
 use Rattle.std.proofs.Common.{◌≡◌, refl, arith}
 use Rattle.basics.specs.SignedLaws.{signed}
-use Rattle.civil_base.specs.declared.offset_date_time.OffsetDateTime.{OffsetDateTime}
-use Rattle.civil_base.specs.Instants.{instant_at, local_at}
-use Rattle.civil_base.specs.DateTimes.{local_of, offset_of, instant}
+use Rattle.civil_base.specs.{declared.offset_date_time.OffsetDateTime.{OffsetDateTime}, Instants.{instant_at, local_at}, DateTimes.{local_of, offset_of, instant}}
 
 pub instant-parts : (value : OffsetDateTime) → instant value ≡ instant_at (local_of value) (offset_of value)
 unfolding instant

@@ -1,8 +1,5 @@
 -- Answers that are known to be found.
-use Rattle.std.proofs.Common.{◌≡◌, ap, subst, Option, Some, None, Result, Ok, Err}
-use Rattle.std.specs.Prelude.{IsOk, IfOk}
-use Rattle.std.specs.Result.{result_ok}
-use Rattle.std.proofs.lemmas.Bool.{false≢true}
+use Rattle.std.{proofs.Common.{◌≡◌, ap, subst, Option, Some, None, Result, Ok, Err}, specs.Prelude.{IsOk, IfOk}, specs.Result.{result_ok}, proofs.lemmas.Bool.{false≢true}}
 
 pub result_ok-found : {T E : Type 0} (r : Result T E) (v : T) → IsOk r → IfOk r (λ x. x ≡ v) → result_ok r ≡ Some v
 result_ok-found (Ok x) v h e = ap Some e

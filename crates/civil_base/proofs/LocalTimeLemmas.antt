@@ -1,14 +1,9 @@
 -- The search for the local time with a text finds what the reader found.
-use Rattle.std.proofs.Common.{◌≡◌, ◌≢◌, ℕ, ◌<◌, ◌≤◌, ◌^◌, true, false, List, Option, Some, None, MatchOption, IfSome, sym, ap, ◌∙◌, arith, ℤ, pos, ◌+ℤ◌, ◌-ℤ◌, ◌≤ℤ◌, ◌<ℤ◌, unsigned_abs}
-use Rattle.std.proofs.lemmas.Bool.{and_from, and_parts, false_from_ne_true, cond-false}
+use Rattle.std.proofs.{Common.{◌≡◌, ◌≢◌, ℕ, ◌<◌, ◌≤◌, ◌^◌, true, false, List, Option, Some, None, MatchOption, IfSome, sym, ap, ◌∙◌, arith, ℤ, pos, ◌+ℤ◌, ◌-ℤ◌, ◌≤ℤ◌, ◌<ℤ◌, unsigned_abs}, lemmas.Bool.{and_from, and_parts, false_from_ne_true, cond-false}}
 use Rattle.std.proofs.lemmas.Slice.Eq.{bytes_eq-Decides}
 use Rattle.std.specs.Int.Signed.{le_z_yes}
-use Rattle.basics.specs.SignedLaws.{signed, natural}
-use Rattle.basics.specs.DateLaws.{last_with-is}
-use Rattle.civil_base.specs.Layout.{local_text}
-use Rattle.civil_base.specs.LocalTimes.{is_text_of, nth_time, time_with, local_time_in}
-use Rattle.civil_base.specs.Ranges.{first_time, end_of_times, is_in_years, IsInYears}
-use Rattle.civil_base.specs.RangeLaws.{years_begin, years_end}
+use Rattle.basics.specs.{SignedLaws.{signed, natural}, DateLaws.{last_with-is}}
+use Rattle.civil_base.specs.{Layout.{local_text}, LocalTimes.{is_text_of, nth_time, time_with, local_time_in}, Ranges.{first_time, end_of_times, is_in_years, IsInYears}, RangeLaws.{years_begin, years_end}}
 
 -- the one local time with a text
 record IsTimeWith (text : List ℕ) (v : ℤ) : Type 0 where

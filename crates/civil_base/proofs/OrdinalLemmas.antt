@@ -1,14 +1,7 @@
 -- Days of the year.
 use Rattle.std.proofs.Common.{◌≡◌, arith, ℕ, ℤ, pos, ◌+ℤ◌, ◌-ℤ◌, to_z, of_z, w32}
-use Rattle.basics.specs.Days.{day}
-use Rattle.basics.specs.Dates.{year_of, month_of, day_of}
-use Rattle.basics.specs.DateLaws.{day-into_year, day-last_of_year, days_into_year-bound, last_date}
-use Rattle.basics.specs.MonthLaws.{days_in_year-bounds}
-use Rattle.basics.specs.SignedLaws.{signed, signed_casts}
-use Rattle.civil_base.specs.Ordinals.{IsOrdinal, ordinal_day, ordinal_of}
-use Rattle.civil_base.specs.Ranges.{IsYear, IsDay}
-use Rattle.civil_base.specs.DayLaws.{date_of-day}
-use Rattle.civil_base.specs.DayRangeLaws.{counted, date-inside, new_year}
+use Rattle.basics.specs.{Days.{day}, Dates.{year_of, month_of, day_of}, DateLaws.{day-into_year, day-last_of_year, days_into_year-bound, last_date}, MonthLaws.{days_in_year-bounds}, SignedLaws.{signed, signed_casts}}
+use Rattle.civil_base.specs.{Ordinals.{IsOrdinal, ordinal_day, ordinal_of}, Ranges.{IsYear, IsDay}, DayLaws.{date_of-day}, DayRangeLaws.{counted, date-inside, new_year}}
 
 -- a day is the one of its year that its place says
 pub ordinal_day-of : (k : ℤ) → IsDay k → ordinal_day (year_of k) (ordinal_of k) ≡ k

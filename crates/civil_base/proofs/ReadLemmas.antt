@@ -1,12 +1,8 @@
 -- What the bytes of a text are, one by one.
-use Rattle.std.proofs.Common.{◌≡◌, refl, arith, ℕ, zero, suc, ◌+◌, ◌*◌, ◌/◌, ◌%◌, ◌≤◌, ◌<◌, nat_lt, Bool, true, false, nat_eq, ◌&&◌, List, [], ◌∷◌, ◌++◌, length, get_or, sym, ap, ◌∙◌, pos, unsigned_abs, int_lt}
-use Rattle.std.proofs.Common.{drop}
-use Rattle.std.proofs.Common.{Option, Some, None, Result, Ok, Err}
-use Rattle.std.specs.Prelude.{IsOk, IfOk, IfSome}
-use Rattle.std.specs.Result.{result_ok}
+use Rattle.std.proofs.Common.{◌≡◌, refl, arith, ℕ, zero, suc, ◌+◌, ◌*◌, ◌/◌, ◌%◌, ◌≤◌, ◌<◌, nat_lt, Bool, true, false, nat_eq, ◌&&◌, List, [], ◌∷◌, ◌++◌, length, get_or, sym, ap, ◌∙◌, pos, unsigned_abs, int_lt, drop, Option, Some, None, Result, Ok, Err}
 use Rattle.std.proofs.lemmas.Bool.Decides.{nat_tests}
-use Rattle.civil_base.specs.Layout.{digit, two_digits, four_digits, nine_digits}
-use Rattle.civil_base.specs.Offsets.{signed_by}
+use Rattle.std.specs.{Prelude.{IsOk, IfOk, IfSome}, Result.{result_ok}}
+use Rattle.civil_base.specs.{Layout.{digit, two_digits, four_digits, nine_digits}, Offsets.{signed_by}}
 
 -- so many bytes from a place on
 abbrev items : ℕ → ℕ → List ℕ → List ℕ

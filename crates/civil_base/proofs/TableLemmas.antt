@@ -1,7 +1,7 @@
 -- The digits of the numbers below 100, and the values of digits, read from tables.
 use Rattle.std.proofs.Common.{◌≡◌, ℕ, zero, suc, ◌+◌, ◌*◌, ◌<◌, ◌≤◌, Bool, true, false, ◌&&◌, List, get_or, nat_eq, nat_lt, ltb-true, refl, sym, subst, arith, ◌-◌, if◌then◌else◌, cond, ap, ◌∙◌, [], ◌∷◌, ◌⊎◌, inl, inr, ◌/◌, ◌%◌}
-use Rattle.std.specs.Prelude.{codes}
 use Rattle.std.proofs.lemmas.Bool.{and_parts, eqb-true, ltb-false}
+use Rattle.std.specs.Prelude.{codes}
 use Rattle.civil_base.specs.Layout.{digit}
 
 abbrev pub pairs : List ℕ

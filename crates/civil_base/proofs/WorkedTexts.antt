@@ -1,16 +1,9 @@
 -- The definitions evaluated on texts, offsets, times and days that are known from outside.
-use Rattle.std.proofs.Common.{◌≡◌, refl, ◌∙◌, arith, ℕ, ◌≤◌, ◌<◌, lit≤, lit<, List, [], ◌∷◌, ◌++◌, ap, map, true, false, ℤ, pos, neg_ℤ, ◌+ℤ◌, ◌*ℤ◌, unsigned_abs}
-use Rattle.std.specs.Prelude.{codes}
-use Rattle.basics.specs.Days.{is_leap, days_in_year, days_in_month, days_after_zero, days_before_zero, year_start, days_through, days_into_year, day, IsDate, IsCountedYear}
-use Rattle.basics.specs.DateLaws.{year_of-day, month_of-day, day_of-day}
-use Rattle.basics.specs.SignedLaws.{signed}
-use Rattle.civil_base.specs.Clock.{nanos_per_day, hour_of, minute_of, second_of, nanosecond_of, time_at}
-use Rattle.civil_base.specs.Instants.{local_at, instant_at, seconds_of}
-use Rattle.civil_base.specs.Layout.{two_digits, four_digits, year_sign, date_digits, time_text, day_part, time_part, local_text, offset_text, zoned_text}
-use Rattle.civil_base.specs.Julian.{julian_of, day_of_julian}
-use Rattle.civil_base.specs.Offsets.{offset_at, hours_in, minutes_in, seconds_in}
-use Rattle.civil_base.specs.Ordinals.{ordinal_day}
-use Rattle.civil_base.specs.Ranges.{is_in_years, is_offset}
+use Rattle.std.{proofs.Common.{◌≡◌, refl, ◌∙◌, arith, ℕ, ◌≤◌, ◌<◌, lit≤, lit<, List, [], ◌∷◌, ◌++◌, ap, map, true, false, ℤ, pos, neg_ℤ, ◌+ℤ◌, ◌*ℤ◌, unsigned_abs}, specs.Prelude.{codes}}
+use Rattle.basics.specs.{Days.{is_leap, days_in_year, days_in_month, days_after_zero, days_before_zero, year_start, days_through, days_into_year, day, IsDate, IsCountedYear}, DateLaws.{year_of-day, month_of-day, day_of-day}, SignedLaws.{signed}}
+use Rattle.civil_base.specs.{Clock.{nanos_per_day, hour_of, minute_of, second_of, nanosecond_of, time_at}, Instants.{local_at, instant_at, seconds_of}}
+use Rattle.civil_base.specs.{Layout.{two_digits, four_digits, year_sign, date_digits, time_text, day_part, time_part, local_text, offset_text, zoned_text}, Julian.{julian_of, day_of_julian}, Offsets.{offset_at, hours_in, minutes_in, seconds_in}}
+use Rattle.civil_base.specs.{Ordinals.{ordinal_day}, Ranges.{is_in_years, is_offset}}
 
 parts_of : (x k : ℤ) (t : ℕ) → t < nanos_per_day → k *ℤ pos nanos_per_day +ℤ pos t ≡ x → (day_part x ≡ k) × (time_part x ≡ t)
 unfolding day_part time_part

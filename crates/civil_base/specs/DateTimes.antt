@@ -1,7 +1,6 @@
 -- Date-times with an offset, as numbers.
 use Rattle.std.specs.Prelude.{◌≡◌, refl, ℤ}
-use Rattle.civil_base.specs.Instants.{instant_at}
-use Rattle.civil_base.specs.declared.offset_date_time.OffsetDateTime.{OffsetDateTime}
+use Rattle.civil_base.specs.{Instants.{instant_at}, declared.offset_date_time.OffsetDateTime.{OffsetDateTime}}
 
 -- the nanoseconds from 1970-01-01 00:00 to the date and time in the value's own offset
 unfoldable pub local_of : OffsetDateTime → ℤ

@@ -1,10 +1,7 @@
 -- The dates of the day numbers of the years.
 use Rattle.std.proofs.Common.{◌≡◌, ℤ, pos, neg_ℤ}
-use Rattle.basics.specs.Days.{day, IsDate}
-use Rattle.basics.specs.Dates.{year_of, month_of, day_of}
-use Rattle.basics.specs.DateLaws.{day_parts, year-between}
-use Rattle.civil_base.specs.Ranges.{IsYear, IsDay}
-use Rattle.civil_base.specs.DayRangeLaws.{counted-first, counted-last, day-counted, day-ends}
+use Rattle.basics.specs.{Days.{day, IsDate}, Dates.{year_of, month_of, day_of}, DateLaws.{day_parts, year-between}}
+use Rattle.civil_base.specs.{Ranges.{IsYear, IsDay}, DayRangeLaws.{counted-first, counted-last, day-counted, day-ends}}
 
 -- the day has a date of those years
 pub record HasDate (k : ℤ) : Type 0 where

@@ -1,13 +1,7 @@
 -- The ends of the ranges as numbers.
-use Rattle.std.specs.Int.{int_div_euclid}
-use Rattle.std.proofs.Common.{◌≡◌, refl, arith, ℕ, ◌<◌, ◌+ℤ◌, ℤ, pos, neg_ℤ, ◌≤ℤ◌, ◌*ℤ◌}
-use Rattle.basics.specs.Days.{is_leap, days_in_year, days_in_month, days_after_zero, days_before_zero, year_start, days_through, days_into_year, day, IsCountedYear, IsDate}
-use Rattle.basics.specs.DateLaws.{day-between}
-use Rattle.basics.specs.MonthLaws.{days_in_month-january}
-use Rattle.basics.specs.SignedLaws.{signed}
-use Rattle.civil_base.specs.Clock.{nanos_per_day}
-use Rattle.civil_base.specs.Ranges.{first_day, last_day, IsDay, IsInYears, IsYear}
-use Rattle.civil_base.specs.RangeLaws.{years_begin, years_end, years_between}
+use Rattle.std.{specs.Int.{int_div_euclid}, proofs.Common.{◌≡◌, refl, arith, ℕ, ◌<◌, ◌+ℤ◌, ℤ, pos, neg_ℤ, ◌≤ℤ◌, ◌*ℤ◌}}
+use Rattle.basics.specs.{Days.{is_leap, days_in_year, days_in_month, days_after_zero, days_before_zero, year_start, days_through, days_into_year, day, IsCountedYear, IsDate}, DateLaws.{day-between}, MonthLaws.{days_in_month-january}, SignedLaws.{signed}}
+use Rattle.civil_base.specs.{Clock.{nanos_per_day}, Ranges.{first_day, last_day, IsDay, IsInYears, IsYear}, RangeLaws.{years_begin, years_end, years_between}}
 
 pub day-first : day (neg_ℤ (pos 9999)) 1 1 ≡ first_day
 unfolding is_leap days_in_year days_in_month days_after_zero days_before_zero year_start days_through days_into_year day

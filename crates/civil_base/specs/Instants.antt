@@ -1,6 +1,5 @@
 -- Instants and local times, both in nanoseconds: those from 1970-01-01 00:00 UTC, and those from 1970-01-01 00:00 on the clock.
-use Rattle.std.specs.Prelude.{ℤ, pos, ◌+ℤ◌, ◌-ℤ◌, ◌*ℤ◌}
-use Rattle.std.specs.Int.{int_div_euclid}
+use Rattle.std.specs.{Prelude.{ℤ, pos, ◌+ℤ◌, ◌-ℤ◌, ◌*ℤ◌}, Int.{int_div_euclid}}
 
 -- the local time of the instant t where clocks are o seconds ahead of UTC
 abbrev pub local_at : ℤ → ℤ → ℤ

@@ -1,9 +1,7 @@
 -- The texts of local times and of instants with an offset.
-use Rattle.std.specs.Prelude.{ℕ, ◌+◌, ◌/◌, ◌%◌, List, [], ◌∷◌, ◌++◌, if◌then◌else◌, ℤ, pos, int_lt, unsigned_abs}
-use Rattle.std.specs.Int.{int_div_euclid, int_rem_euclid}
+use Rattle.std.specs.{Prelude.{ℕ, ◌+◌, ◌/◌, ◌%◌, List, [], ◌∷◌, ◌++◌, if◌then◌else◌, ℤ, pos, int_lt, unsigned_abs}, Int.{int_div_euclid, int_rem_euclid}}
 use Rattle.basics.specs.Dates.{year_of, month_of, day_of}
-use Rattle.civil_base.specs.Instants.{local_at}
-use Rattle.civil_base.specs.Clock.{nanos_per_day, hour_of, minute_of, second_of, nanosecond_of}
+use Rattle.civil_base.specs.{Instants.{local_at}, Clock.{nanos_per_day, hour_of, minute_of, second_of, nanosecond_of}}
 
 -- the decimal digit of n at the place of that power of ten
 abbrev pub digit : ℕ → ℕ → ℕ

@@ -1,9 +1,7 @@
 -- The pieces of which texts are written.
-use Rattle.std.proofs.Common.{◌≡◌, refl, arith, ℕ, ℤ, pos, ◌≤◌, List, [], ◌∷◌, ◌++◌, length, append_assoc, unsigned_abs, drop, take, get_or, ◌≢◌, ◌<ℤ◌, ◌≤ℤ◌}
-use Rattle.std.proofs.lemmas.Int.{ints}
+use Rattle.std.proofs.{Common.{◌≡◌, refl, arith, ℕ, ℤ, pos, ◌≤◌, List, [], ◌∷◌, ◌++◌, length, append_assoc, unsigned_abs, drop, take, get_or, ◌≢◌, ◌<ℤ◌, ◌≤ℤ◌}, lemmas.Int.{ints}}
 use Rattle.basics.specs.Dates.{year_of, month_of, day_of}
-use Rattle.civil_base.specs.Clock.{hour_of, minute_of, second_of, nanosecond_of}
-use Rattle.civil_base.specs.Layout.{offset_text, two_digits, four_digits, nine_digits, year_sign, date_digits, time_text, day_part, time_part, local_text}
+use Rattle.civil_base.specs.{Clock.{hour_of, minute_of, second_of, nanosecond_of}, Layout.{offset_text, two_digits, four_digits, nine_digits, year_sign, date_digits, time_text, day_part, time_part, local_text}}
 
 abbrev pub date_piece : ℕ → ℕ → ℕ → List ℕ
 date_piece y m d = four_digits y ++ 45 ∷ two_digits m ++ 45 ∷ two_digits d

@@ -1,8 +1,7 @@
 -- The local time that a text names.
 use Rattle.std.specs.Prelude.{ℕ, ◌^◌, Bool, ◌&&◌, List, Option, Some, None, bytes_eq, if◌then◌else◌, ℤ, pos, ◌+ℤ◌}
 use Rattle.basics.specs.Dates.{last_with}
-use Rattle.civil_base.specs.Layout.{local_text}
-use Rattle.civil_base.specs.Ranges.{first_time, is_in_years}
+use Rattle.civil_base.specs.{Layout.{local_text}, Ranges.{first_time, is_in_years}}
 
 -- the text is that of this local time
 abbrev pub is_text_of : List ℕ → ℤ → Bool

@@ -1,6 +1,5 @@
 -- Numbers by their sign and size.
-use Rattle.std.proofs.Common.{◌≡◌, refl, Bool, true, false, if◌then◌else◌, nat_eq, int_lt, ℤ, pos, negsuc, unsigned_abs, arith}
-use Rattle.std.proofs.lemmas.Bool.Decides.{nat_tests}
+use Rattle.std.proofs.{Common.{◌≡◌, refl, Bool, true, false, if◌then◌else◌, nat_eq, int_lt, ℤ, pos, negsuc, unsigned_abs, arith}, lemmas.Bool.Decides.{nat_tests}}
 use Rattle.civil_base.specs.Offsets.{signed_by}
 
 pub signed_by-size : (z : ℤ) → signed_by (int_lt z (pos 0)) (unsigned_abs z) ≡ z

@@ -1,6 +1,5 @@
 -- Offsets by hours, minutes and seconds.
-use Rattle.std.specs.Prelude.{ℕ, ◌+◌, ◌*◌, ◌≤◌, Bool, if◌then◌else◌, ℤ, pos, neg_ℤ, int_lt, int_div, int_rem, unsigned_abs}
-use Rattle.std.specs.Ordering.{int_eq}
+use Rattle.std.specs.{Prelude.{ℕ, ◌+◌, ◌*◌, ◌≤◌, Bool, if◌then◌else◌, ℤ, pos, neg_ℤ, int_lt, int_div, int_rem, unsigned_abs}, Ordering.{int_eq}}
 
 -- whether the first part that isn't 0 is negative
 abbrev pub is_first_negative : ℤ → ℤ → ℤ → Bool

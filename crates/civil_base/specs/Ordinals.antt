@@ -1,7 +1,6 @@
 -- Days of a year by their places in it.
 use Rattle.std.specs.Prelude.{ℕ, ◌+◌, ◌-◌, ◌≤◌, ℤ, pos, ◌+ℤ◌}
-use Rattle.basics.specs.Days.{day, days_in_year, days_into_year}
-use Rattle.basics.specs.Dates.{year_of, month_of, day_of}
+use Rattle.basics.specs.{Days.{day, days_in_year, days_into_year}, Dates.{year_of, month_of, day_of}}
 
 -- the year has that many days
 pub record IsOrdinal (y : ℤ) (n : ℕ) : Type 0 where

@@ -1,10 +1,7 @@
 -- The day and the time of day of a local time.
 use Rattle.std.proofs.Common.{◌≡◌, arith, ℕ, ◌+◌, ◌*◌, ◌/◌, ◌%◌, ◌<◌, ℤ, pos, ◌+ℤ◌, ◌*ℤ◌}
 use Rattle.basics.specs.SignedLaws.{signed}
-use Rattle.civil_base.specs.Clock.{nanos_per_day}
-use Rattle.civil_base.specs.Ranges.{IsDay, IsInYears}
-use Rattle.civil_base.specs.Layout.{day_part, time_part}
-use Rattle.civil_base.specs.DayRangeLaws.{day-inside}
+use Rattle.civil_base.specs.{Clock.{nanos_per_day}, Ranges.{IsDay, IsInYears}, Layout.{day_part, time_part}, DayRangeLaws.{day-inside}}
 
 pub day_part-inside : (x : ℤ) → IsInYears x → IsDay (day_part x)
 unfolding day_part

@@ -1,10 +1,6 @@
 -- The ranges by their numbers.
-use Rattle.std.specs.Prelude.{ℤ, ◌≤◌, ◌*◌, pos, neg_ℤ, ◌≤ℤ◌, ◌<ℤ◌, int_le, unsigned_abs}
-use Rattle.std.proofs.Common.{arith}
-use Rattle.std.proofs.lemmas.Bool.{and_from, and_parts, leb-true}
-use Rattle.std.proofs.lemmas.Bool.Decides.{nat_tests}
-use Rattle.basics.specs.ComparisonLaws.{le_pass, lt_pass, le_from_pass, lt_from_pass}
-use Rattle.basics.specs.SignedLaws.{signed, signed_casts, one_sided}
+use Rattle.std.{specs.Prelude.{ℤ, ◌≤◌, ◌*◌, pos, neg_ℤ, ◌≤ℤ◌, ◌<ℤ◌, int_le, unsigned_abs}, proofs.Common.{arith}, proofs.lemmas.Bool.{and_from, and_parts, leb-true}, proofs.lemmas.Bool.Decides.{nat_tests}}
+use Rattle.basics.specs.{ComparisonLaws.{le_pass, lt_pass, le_from_pass, lt_from_pass}, SignedLaws.{signed, signed_casts, one_sided}}
 use Rattle.civil_base.specs.Ranges.{first_time, end_of_times, IsInYears, IsOffset, greatest_offset, far_seconds}
 
 -- a local time in the years lies between -9999-01-01 00:00 and the end of 9999-12-31

@@ -1,8 +1,6 @@
 -- What a zoned text is read as.
 use Rattle.std.specs.Prelude.{ℕ, ◌≡◌, List, ℤ}
-use Rattle.civil_base.specs.Instants.{local_at}
-use Rattle.civil_base.specs.Layout.{zoned_text}
-use Rattle.civil_base.specs.Ranges.{IsInYears, IsOffset}
+use Rattle.civil_base.specs.{Instants.{local_at}, Layout.{zoned_text}, Ranges.{IsInYears, IsOffset}}
 
 -- the text names the instant t and the offset o: it is their zoned text, their local date lies in the years, and no other instant
 -- or offset has it

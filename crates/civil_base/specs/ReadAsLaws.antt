@@ -1,10 +1,6 @@
 -- Each zoned text is read as the instant and the offset whose text it is.
 use Rattle.std.specs.Prelude.{ℕ, ℤ, ◌≡◌, List, refl}
-use Rattle.civil_base.specs.Instants.{local_at}
-use Rattle.civil_base.specs.Layout.{zoned_text}
-use Rattle.civil_base.specs.Ranges.{IsInYears, IsOffset}
-use Rattle.civil_base.specs.ReadAs.{IsReadAs}
-use Rattle.civil_base.specs.TextLaws.{zoned_text-same}
+use Rattle.civil_base.specs.{Instants.{local_at}, Layout.{zoned_text}, Ranges.{IsInYears, IsOffset}, ReadAs.{IsReadAs}, TextLaws.{zoned_text-same}}
 
 pub zoned_text-read : (t o : ℤ) → IsInYears (local_at t o) → IsOffset o → IsReadAs (zoned_text t o) t o
 zoned_text-read t o years range = record {

@@ -1,22 +1,9 @@
 -- Texts tell values apart.
-use Rattle.std.proofs.Common.{◌≡◌, refl, arith, ap, sym, ◌∙◌, ℕ, ℤ, pos, ◌<◌, ◌/◌, ◌%◌, ◌+ℤ◌, ◌*ℤ◌, ◌≢◌, nat_eq, int_lt, ◌∷◌, ◌++◌, length, take, drop, get_or, unsigned_abs, length-append}
-use Rattle.std.proofs.lemmas.List.{take_at, drop_at}
-use Rattle.std.proofs.lemmas.Int.{by_lt_z}
-use Rattle.basics.specs.Days.{day}
-use Rattle.basics.specs.Dates.{year_of, month_of, day_of}
-use Rattle.basics.specs.SignedLaws.{signed, one_sided}
-use Rattle.basics.specs.MonthLaws.{days_in_month-bounds}
-use Rattle.civil_base.specs.Clock.{nanos_per_day, hour_of, minute_of, second_of, nanosecond_of, time_at}
-use Rattle.civil_base.specs.Layout.{two_digits, four_digits, nine_digits, year_sign, date_digits, time_text, day_part, time_part, local_text, offset_text, zoned_text}
-use Rattle.civil_base.specs.Ranges.{IsDay, IsInYears, IsOffset}
-use Rattle.civil_base.specs.Instants.{local_at}
-use Rattle.civil_base.specs.RangeLaws.{offset_size}
-use Rattle.civil_base.specs.ClockLaws.{clock_parts, time_at-parts}
-use Rattle.civil_base.specs.DayLaws.{date_of-day}
-use Rattle.civil_base.specs.DigitLaws.{four_digits-halves, nine_digits-parts}
-use Rattle.civil_base.specs.LayoutLaws.{unsigned_text, local_text-sign, unsigned_text-shape, year_sign-negative, year_sign-other, offset_text-length}
-use Rattle.civil_base.specs.Offsets.{signed_by}
-use Rattle.civil_base.specs.OffsetLaws.{signed_by-size, minus_is}
+use Rattle.std.proofs.{Common.{◌≡◌, refl, arith, ap, sym, ◌∙◌, ℕ, ℤ, pos, ◌<◌, ◌/◌, ◌%◌, ◌+ℤ◌, ◌*ℤ◌, ◌≢◌, nat_eq, int_lt, ◌∷◌, ◌++◌, length, take, drop, get_or, unsigned_abs, length-append}, lemmas.List.{take_at, drop_at}, lemmas.Int.{by_lt_z}}
+use Rattle.basics.specs.{Days.{day}, Dates.{year_of, month_of, day_of}, SignedLaws.{signed, one_sided}, MonthLaws.{days_in_month-bounds}}
+use Rattle.civil_base.specs.{Clock.{nanos_per_day, hour_of, minute_of, second_of, nanosecond_of, time_at}, Layout.{two_digits, four_digits, nine_digits, year_sign, date_digits, time_text, day_part, time_part, local_text, offset_text, zoned_text}}
+use Rattle.civil_base.specs.{Ranges.{IsDay, IsInYears, IsOffset}, Instants.{local_at}, RangeLaws.{offset_size}, ClockLaws.{clock_parts, time_at-parts}, DayLaws.{date_of-day}, DigitLaws.{four_digits-halves, nine_digits-parts}}
+use Rattle.civil_base.specs.{LayoutLaws.{unsigned_text, local_text-sign, unsigned_text-shape, year_sign-negative, year_sign-other, offset_text-length}, Offsets.{signed_by}, OffsetLaws.{signed_by-size, minus_is}}
 use Rattle.civil_base.specs.PartLaws.{day_part-inside, time_part-inside, parts-joined}
 
 two_digits-same : (m n : ℕ) → m < 100 → n < 100 → two_digits m ≡ two_digits n → m ≡ n

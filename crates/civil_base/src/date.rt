@@ -1,14 +1,8 @@
 //! Dates.
 ghost use Rattle.std.specs.Prelude.{◌≡◌, ◌↔◌, pos, ◌+ℤ◌, ◌-ℤ◌, IsOk, IfOk, IsSome, IfSome};
-ghost use Rattle.basics.specs.Days.{day as day_at, days_in_year, IsDate};
-ghost use Rattle.basics.specs.Dates.{year_of, month_of, day_of};
-ghost use Rattle.basics.specs.Weekdays.{weekday_of};
-ghost use Rattle.civil_base.specs.Julian.{julian_of, day_of_julian};
-ghost use Rattle.civil_base.specs.Ordinals.{IsOrdinal, ordinal_day, ordinal_of};
-ghost use Rattle.civil_base.specs.Ranges.{IsYear, IsDay};
-ghost use Rattle.civil_parts.specs.Durations.{whole_days};
-ghost use Rattle.civil_parts.specs.Months.{month_number, IsMonthNumber};
-ghost use Rattle.civil_parts.specs.Weekdays.{weekday_number};
+ghost use Rattle.basics.specs.{Days.{day as day_at, days_in_year, IsDate}, Dates.{year_of, month_of, day_of}, Weekdays.{weekday_of}};
+ghost use Rattle.civil_base.specs.{Julian.{julian_of, day_of_julian}, Ordinals.{IsOrdinal, ordinal_day, ordinal_of}, Ranges.{IsYear, IsDay}};
+ghost use Rattle.civil_parts.specs.{Durations.{whole_days}, Months.{month_number, IsMonthNumber}, Weekdays.{weekday_number}};
 
 use crate::{ComponentRange, Month, SignedDuration, Weekday};
 use basics::{date_of, day_number, is_leap_year, weekday};

@@ -1,15 +1,8 @@
 //! Dates with a time of day and an offset from UTC, and conversions between them and instants.
-ghost use Rattle.std.specs.Prelude.{◌≡◌, ◌*◌, ◌≤◌, pos, unsigned_abs, is_ok, IfOk, is_some, IfSome};
-ghost use Rattle.std.proofs.Common.{rules};
-ghost use Rattle.std.specs.Cmp.{partial_order_from_own_ties};
-ghost use Rattle.std.specs.Cmp.Rules.{comparing, hashing};
-ghost use Rattle.std.specs.Ordering.{on, int_eq, int_cmp, as_partial_cmp};
+ghost use Rattle.std.{specs.Prelude.{◌≡◌, ◌*◌, ◌≤◌, pos, unsigned_abs, is_ok, IfOk, is_some, IfSome}, proofs.Common.{rules}, specs.Cmp.{partial_order_from_own_ties}, specs.Cmp.Rules.{comparing, hashing}, specs.Ordering.{on, int_eq, int_cmp, as_partial_cmp}};
 ghost use Rattle.std.specs.Hash as fed;
 ghost use Rattle.basics.specs.Dates.{year_of};
-ghost use Rattle.civil_base.specs.Instants.{local_at, nanos_of, seconds_of};
-ghost use Rattle.civil_base.specs.Layout.{day_part, time_part};
-ghost use Rattle.civil_base.specs.Ranges.{IsYear, is_in_years, IsInYears, IsOffset, far_seconds};
-ghost use Rattle.civil_base.specs.DateTimes.{local_of, offset_of, instant, at_offset};
+ghost use Rattle.civil_base.specs.{Instants.{local_at, nanos_of, seconds_of}, Layout.{day_part, time_part}, Ranges.{IsYear, is_in_years, IsInYears, IsOffset, far_seconds}, DateTimes.{local_of, offset_of, instant, at_offset}};
 
 use crate::{ComponentRange, Date, PlainDateTime, Time, UtcOffset};
 use civil_parts::units::NANOS_PER_SECOND;

@@ -1,10 +1,7 @@
 //! Dates with a time of day, with no offset.
 ghost use Rattle.std.specs.Prelude.{◌≡◌, ◌↔◌, ◌+◌, ◌*◌, ◌<◌, pos, neg_ℤ, ◌+ℤ◌, ◌*ℤ◌, ◌≤◌, is_some, IfSome, unsigned_abs};
 ghost use Rattle.basics.specs.Dates.{year_of};
-ghost use Rattle.civil_base.specs.Clock.{nanos_per_day};
-ghost use Rattle.civil_base.specs.Instants.{local_at, instant_at};
-ghost use Rattle.civil_base.specs.Layout.{day_part, time_part};
-ghost use Rattle.civil_base.specs.Ranges.{IsYear, is_in_years, IsInYears, IsOffset, far_seconds};
+ghost use Rattle.civil_base.specs.{Clock.{nanos_per_day}, Instants.{local_at, instant_at}, Layout.{day_part, time_part}, Ranges.{IsYear, is_in_years, IsInYears, IsOffset, far_seconds}};
 
 use crate::{Date, OffsetDateTime, Time, UtcOffset};
 use std::marker::Model;

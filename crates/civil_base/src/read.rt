@@ -3,14 +3,8 @@
 //! A local text is read exactly. A zoned text is read loosely, the value found is written, and the two texts are compared.
 ghost use Rattle.std.specs.Prelude.{◌≡◌, ◌≢◌, ℕ, ℤ, ◌<◌, ◌≤◌, pos, ◌+ℤ◌, ◌*ℤ◌, int_lt, unsigned_abs, ◌+◌, ◌*◌, ◌/◌, ◌%◌, [], ◌∷◌, ◌++◌, List, length, slice_index, true, false, IfSome, IsSomeAnd, MatchOption, take, if◌then◌else◌};
 ghost use Rattle.basics.specs.Dates.{year_of};
-ghost use Rattle.civil_base.specs.DateParts.{HasParts};
-ghost use Rattle.civil_base.specs.Clock.{nanos_per_day, hour_of, minute_of, second_of};
-ghost use Rattle.civil_base.specs.DateTimes.{offset_of, instant};
-ghost use Rattle.civil_base.specs.Instants.{local_at};
-ghost use Rattle.civil_base.specs.LocalTimes.{local_time_in};
-ghost use Rattle.civil_base.specs.Layout.{local_text, zoned_text, day_part, time_part, date_digits, time_text, offset_text, two_digits, four_digits, nine_digits, year_sign, digit as digit_of};
-ghost use Rattle.civil_base.specs.Ranges.{IsDay, IsInYears, IsOffset};
-ghost use Rattle.civil_base.specs.ReadAs.{IsReadAs};
+ghost use Rattle.civil_base.specs.{DateParts.{HasParts}, Clock.{nanos_per_day, hour_of, minute_of, second_of}, DateTimes.{offset_of, instant}, Instants.{local_at}, LocalTimes.{local_time_in}};
+ghost use Rattle.civil_base.specs.{Layout.{local_text, zoned_text, day_part, time_part, date_digits, time_text, offset_text, two_digits, four_digits, nine_digits, year_sign, digit as digit_of}, Ranges.{IsDay, IsInYears, IsOffset}, ReadAs.{IsReadAs}};
 
 use crate::utc_offset::signed;
 use crate::{Date, Month, OffsetDateTime, PlainDateTime, Time, UtcOffset};

@@ -1,7 +1,6 @@
 //! Instants.
 ghost use Rattle.std.specs.Prelude.{◌≡◌, ◌*◌, ◌≤◌, ◌&&◌, pos, ◌+ℤ◌, ◌*ℤ◌, unsigned_abs, nat_lt, is_ok, IfOk};
-ghost use Rattle.civil_base.specs.Instants.{nanos_of};
-ghost use Rattle.civil_base.specs.Ranges.{is_in_years, IsInYears, far_seconds};
+ghost use Rattle.civil_base.specs.{Instants.{nanos_of}, Ranges.{is_in_years, IsInYears, far_seconds}};
 
 use crate::offset_date_time::nanos_of;
 use crate::{ComponentRange, PlainDateTime};

@@ -1,9 +1,6 @@
 //! Dates with a time of day at UTC.
 ghost use Rattle.std.specs.Prelude.{◌≡◌, ◌*◌, ◌≤◌, pos, ◌+ℤ◌, ◌*ℤ◌, unsigned_abs, is_ok, IfOk, is_some, IfSome};
-ghost use Rattle.civil_base.specs.Clock.{nanos_per_day};
-ghost use Rattle.civil_base.specs.DateTimes.{instant, offset_of};
-ghost use Rattle.civil_base.specs.Instants.{local_at, nanos_of, seconds_of};
-ghost use Rattle.civil_base.specs.Ranges.{is_in_years, IsInYears, far_seconds};
+ghost use Rattle.civil_base.specs.{Clock.{nanos_per_day}, DateTimes.{instant, offset_of}, Instants.{local_at, nanos_of, seconds_of}, Ranges.{is_in_years, IsInYears, far_seconds}};
 
 use crate::offset_date_time::{nanos_of, seconds_of};
 use crate::{ComponentRange, Date, OffsetDateTime, PlainDateTime, Time, UtcOffset};

@@ -1,8 +1,6 @@
 //! Offsets from UTC.
 ghost use Rattle.std.specs.Prelude.{◌≡◌, ◌↔◌, pos, ◌*ℤ◌, ◌<ℤ◌, ◌<◌, ◌^◌, IsTrue, IsOk, IfOk, is_ok};
-ghost use Rattle.civil_base.specs.Ranges.{is_offset, IsOffset};
-ghost use Rattle.civil_base.specs.Offsets.{offset_at, signed_by, hours_in, minutes_in, seconds_in, IsOffsetParts};
-ghost use Rattle.civil_base.specs.Offsets.{is_first_negative as leads_negative};
+ghost use Rattle.civil_base.specs.{Ranges.{is_offset, IsOffset}, Offsets.{offset_at, signed_by, hours_in, minutes_in, seconds_in, IsOffsetParts}, Offsets.{is_first_negative as leads_negative}};
 
 use crate::ComponentRange;
 use civil_parts::units::NANOS_PER_SECOND;

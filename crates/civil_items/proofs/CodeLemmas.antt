@@ -1,17 +1,8 @@
 -- The bytes of a configuration are those of its number.
-use Rattle.std.proofs.Common.{arith, ◌≡◌, refl, ℕ, ◌*◌, ◌/◌, ◌%◌, ◌^◌, ◌<◌, List, [], ◌∷◌, ◌++◌, get_or, ◌∙◌, ap, lit<, Bool, true, false, Option, Some, None, zero, suc}
-use Rattle.std.specs.Int.{w64, w128, to_be_bytes, from_be_bytes}
-use Rattle.std.proofs.lemmas.Nat.{be_bytes_8}
-use Rattle.civil_items.specs.declared.digits.Digits.{Digits}
-use Rattle.civil_items.specs.Codes.{components_place, kind_place, unit_place, precision_place, flag, digits_of, digits_byte, code_bytes, code}
-use Rattle.civil_items.specs.declared.config.Config.{Config}
-use Rattle.civil_items.specs.declared.iso8601.FormattedComponents.{FormattedComponents}
-use Rattle.civil_items.specs.declared.iso8601.FormattedComponents.TheVariants.{None as Nothing, Date, Time, Offset, DateTime, DateTimeOffset, TimeOffset}
-use Rattle.civil_items.specs.declared.iso8601.DateKind.{DateKind}
-use Rattle.civil_items.specs.declared.iso8601.DateKind.TheVariants.{Calendar, Week, Ordinal}
-use Rattle.civil_items.specs.declared.iso8601.TimePrecision.{TimePrecision}
-use Rattle.civil_items.specs.declared.iso8601.TimePrecision.TheVariants.{Hour, Minute, Second}
-use Rattle.civil_items.specs.declared.iso8601.OffsetPrecision.{OffsetPrecision}
+use Rattle.std.{proofs.Common.{arith, ◌≡◌, refl, ℕ, ◌*◌, ◌/◌, ◌%◌, ◌^◌, ◌<◌, List, [], ◌∷◌, ◌++◌, get_or, ◌∙◌, ap, lit<, Bool, true, false, Option, Some, None, zero, suc}, specs.Int.{w64, w128, to_be_bytes, from_be_bytes}, proofs.lemmas.Nat.{be_bytes_8}}
+use Rattle.civil_items.specs.{declared.digits.Digits.{Digits}, Codes.{components_place, kind_place, unit_place, precision_place, flag, digits_of, digits_byte, code_bytes, code}, declared.config.Config.{Config}}
+use Rattle.civil_items.specs.declared.iso8601.{FormattedComponents.{FormattedComponents}, FormattedComponents.TheVariants.{None as Nothing, Date, Time, Offset, DateTime, DateTimeOffset, TimeOffset}, DateKind.{DateKind}}
+use Rattle.civil_items.specs.declared.iso8601.{DateKind.TheVariants.{Calendar, Week, Ordinal}, TimePrecision.{TimePrecision}, TimePrecision.TheVariants.{Hour, Minute, Second}, OffsetPrecision.{OffsetPrecision}}
 use Rattle.civil_items.specs.declared.iso8601.OffsetPrecision.TheVariants.{Hour as ToHours, Minute as ToMinutes}
 
 -- each is a byte

@@ -1,9 +1,6 @@
 -- Lists of items, one place after another.
-use Rattle.std.proofs.Common.{◌≡◌, ◌≢◌, suc, List, [], ◌∷◌, length, false, refl, ap}
-use Rattle.std.proofs.lemmas.Bool.{and_right}
-use Rattle.civil_items.specs.declared.owned_format_item.OwnedFormatItem.{OwnedFormatItem}
-use Rattle.civil_items.specs.ItemTrees.{plain_of, plain_trees}
-use Rattle.civil_items.specs.Trees.{same, all_same}
+use Rattle.std.proofs.{Common.{◌≡◌, ◌≢◌, suc, List, [], ◌∷◌, length, false, refl, ap}, lemmas.Bool.{and_right}}
+use Rattle.civil_items.specs.{declared.owned_format_item.OwnedFormatItem.{OwnedFormatItem}, ItemTrees.{plain_of, plain_trees}, Trees.{same, all_same}}
 
 -- lists of different lengths are not the same
 pub other_lengths : (xs ys : List OwnedFormatItem) → length xs ≢ length ys → all_same (plain_trees xs) (plain_trees ys) ≡ false

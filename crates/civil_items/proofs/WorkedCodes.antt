@@ -1,12 +1,7 @@
 -- The codes of some configurations, and the places of all parts.
 use Rattle.std.proofs.Common.{lit<, ◌≡◌, refl, [], ◌∷◌, map, true, false, Some, None}
-use Rattle.civil_items.specs.declared.iso8601.FormattedComponents.TheVariants.{None as Nothing, Date, Time, Offset, DateTime, DateTimeOffset, TimeOffset}
-use Rattle.civil_items.specs.declared.iso8601.DateKind.TheVariants.{Calendar, Week, Ordinal}
-use Rattle.civil_items.specs.declared.iso8601.TimePrecision.TheVariants.{Hour, Minute, Second}
-use Rattle.civil_items.specs.declared.iso8601.OffsetPrecision.TheVariants.{Hour as ToHours, Minute as ToMinutes}
-use Rattle.civil_items.specs.declared.digits.Digits.{Digits}
-use Rattle.civil_items.specs.Codes.{components_place, kind_place, unit_place, precision_place, code}
-use Rattle.civil_items.specs.Defaults.{default_config, nine}
+use Rattle.civil_items.specs.declared.iso8601.{FormattedComponents.TheVariants.{None as Nothing, Date, Time, Offset, DateTime, DateTimeOffset, TimeOffset}, DateKind.TheVariants.{Calendar, Week, Ordinal}, TimePrecision.TheVariants.{Hour, Minute, Second}}
+use Rattle.civil_items.specs.{declared.iso8601.OffsetPrecision.TheVariants.{Hour as ToHours, Minute as ToMinutes}, declared.digits.Digits.{Digits}, Codes.{components_place, kind_place, unit_place, precision_place, code}, Defaults.{default_config, nine}}
 
 worked_parts : map components_place (Nothing ∷ Date ∷ Time ∷ Offset ∷ DateTime ∷ DateTimeOffset ∷ TimeOffset ∷ [])
     ≡ 0 ∷ 1 ∷ 2 ∷ 3 ∷ 4 ∷ 5 ∷ 6 ∷ []

@@ -2,13 +2,9 @@
 use Rattle.std.proofs.Common.{◌≡◌, refl, List, [], ◌∷◌, ◌++◌, map, true, false, codes, Ok, Err}
 use denote.Bor.{Bor}
 use Rattle.std.specs.Global.{Vec}
-use Rattle.civil_items.specs.declared.format_item.Component.{Component}
-use Rattle.civil_items.specs.declared.format_item.Component.TheVariants.{Year, Month, Day, Hour, Minute, Second, Subsecond, OffsetHour, OffsetMinute, OffsetSecond}
-use Rattle.civil_items.specs.declared.owned_format_item.OwnedFormatItem.TheOpen.{OwnedFormatItem-F}
-use Rattle.civil_items.specs.declared.format_item.BorrowedFormatItem.TheOpen.{BorrowedFormatItem-F}
-use Rattle.civil_items.specs.ItemTrees.{owned_level, borrowed_level}
-use Rattle.civil_items.specs.Trees.{Tree, Trees, literal, text, component, compound, optional, first, no_trees, tree, trees_of, component_place, component_in, compound_in, plain, same}
-use Rattle.civil_items.specs.declared.error.Error.{Error}
+use Rattle.civil_items.specs.declared.format_item.Component.{Component, TheVariants.{Year, Month, Day, Hour, Minute, Second, Subsecond, OffsetHour, OffsetMinute, OffsetSecond}}
+use Rattle.civil_items.specs.{declared.owned_format_item.OwnedFormatItem.TheOpen.{OwnedFormatItem-F}, declared.format_item.BorrowedFormatItem.TheOpen.{BorrowedFormatItem-F}, ItemTrees.{owned_level, borrowed_level}}
+use Rattle.civil_items.specs.{Trees.{Tree, Trees, literal, text, component, compound, optional, first, no_trees, tree, trees_of, component_place, component_in, compound_in, plain, same}, declared.error.Error.{Error}}
 use Rattle.civil_items.specs.declared.error.Error.TheVariants.{ConversionRange, ComponentRange, IndeterminateOffset, DifferentVariant, InvalidVariant}
 use Rattle.civil_items.specs.Errors.{conversion_range_in, component_range_in, indeterminate_offset_in, different_variant_in, invalid_variant_in}
 

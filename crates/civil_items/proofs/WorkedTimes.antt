@@ -1,7 +1,6 @@
 -- The definitions evaluated where the answers are known from outside: units and system times.
 use Rattle.std.proofs.Common.{◌≡◌, refl, [], ◌∷◌, true, false, pos, neg_ℤ}
-use Rattle.civil_items.specs.Lengths.{fits_seconds, fits_std_seconds, minute, hour, day, week}
-use Rattle.civil_items.specs.SysTimes.{is_sys_time, length_of}
+use Rattle.civil_items.specs.{Lengths.{fits_seconds, fits_std_seconds, minute, hour, day, week}, SysTimes.{is_sys_time, length_of}}
 
 worked_units : minute ∷ hour ∷ day ∷ week ∷ [] ≡ 60 ∷ 3600 ∷ 86400 ∷ 604800 ∷ []
 worked_units = refl

@@ -1,7 +1,6 @@
 -- Encoding and decoding undo each other.
 use Rattle.std.specs.Prelude.{◌≡◌, ◌≢◌, ℕ, Option, Some, None, refl}
-use Rattle.civil_items.specs.Codes.{code, Decodes}
-use Rattle.civil_items.specs.declared.config.Config.{Config}
+use Rattle.civil_items.specs.{Codes.{code, Decodes}, declared.config.Config.{Config}}
 
 -- the code of a configuration is decoded to that configuration
 pub decode-encode : (config : Config) (answer : Option Config) → Decodes (code config) answer → answer ≡ Some config

@@ -1,17 +1,8 @@
 -- The number that stands for a configuration.
-use Rattle.std.specs.Prelude.{◌≡◌, ℕ, Bool, true, false, List, [], ◌∷◌, Option, Some, None, IfSome}
-use Rattle.std.specs.Int.{w128, from_be_bytes}
-use Rattle.civil_items.specs.Digits.{digit_count}
-use Rattle.civil_items.specs.declared.digits.Digits.{Digits}
-use Rattle.civil_items.specs.declared.config.Config.{Config}
-use Rattle.civil_items.specs.declared.iso8601.FormattedComponents.{FormattedComponents}
-use Rattle.civil_items.specs.declared.iso8601.FormattedComponents.TheVariants.{None as Nothing, Date, Time, Offset, DateTime, DateTimeOffset, TimeOffset}
-use Rattle.civil_items.specs.declared.iso8601.DateKind.{DateKind}
-use Rattle.civil_items.specs.declared.iso8601.DateKind.TheVariants.{Calendar, Week, Ordinal}
-use Rattle.civil_items.specs.declared.iso8601.TimePrecision.{TimePrecision}
-use Rattle.civil_items.specs.declared.iso8601.TimePrecision.TheVariants.{Hour, Minute, Second}
-use Rattle.civil_items.specs.declared.iso8601.OffsetPrecision.{OffsetPrecision}
-use Rattle.civil_items.specs.declared.iso8601.OffsetPrecision.TheVariants.{Hour as ToHours, Minute as ToMinutes}
+use Rattle.std.specs.{Prelude.{◌≡◌, ℕ, Bool, true, false, List, [], ◌∷◌, Option, Some, None, IfSome}, Int.{w128, from_be_bytes}}
+use Rattle.civil_items.specs.{Digits.{digit_count}, declared.digits.Digits.{Digits}, declared.config.Config.{Config}, declared.iso8601.FormattedComponents.{FormattedComponents}}
+use Rattle.civil_items.specs.declared.iso8601.{FormattedComponents.TheVariants.{None as Nothing, Date, Time, Offset, DateTime, DateTimeOffset, TimeOffset}, DateKind.{DateKind}, DateKind.TheVariants.{Calendar, Week, Ordinal}, TimePrecision.{TimePrecision}}
+use Rattle.civil_items.specs.declared.iso8601.{TimePrecision.TheVariants.{Hour, Minute, Second}, OffsetPrecision.{OffsetPrecision}, OffsetPrecision.TheVariants.{Hour as ToHours, Minute as ToMinutes}}
 
 -- the places of the parts in their order
 abbrev pub components_place : FormattedComponents → ℕ

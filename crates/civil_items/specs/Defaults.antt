@@ -1,11 +1,6 @@
 -- The default configuration.
-use Rattle.std.specs.Prelude.{true, false, Some}
-use Rattle.std.proofs.Common.{lit<}
-use Rattle.civil_items.specs.declared.digits.Digits.{Digits}
-use Rattle.civil_items.specs.declared.config.Config.{Config}
-use Rattle.civil_items.specs.declared.iso8601.FormattedComponents.TheVariants.{DateTimeOffset}
-use Rattle.civil_items.specs.declared.iso8601.DateKind.TheVariants.{Calendar}
-use Rattle.civil_items.specs.declared.iso8601.TimePrecision.TheVariants.{Second}
+use Rattle.std.{specs.Prelude.{true, false, Some}, proofs.Common.{lit<}}
+use Rattle.civil_items.specs.declared.{digits.Digits.{Digits}, config.Config.{Config}, iso8601.FormattedComponents.TheVariants.{DateTimeOffset}, iso8601.DateKind.TheVariants.{Calendar}, iso8601.TimePrecision.TheVariants.{Second}}
 use Rattle.civil_items.specs.declared.iso8601.OffsetPrecision.TheVariants.{Minute}
 
 abbrev pub nine : Digits

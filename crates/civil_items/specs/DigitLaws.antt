@@ -1,8 +1,7 @@
 -- Two of one number of digits are one value.
 use Rattle.std.proofs.Common.{◌≡◌, ℕ, ◌<◌, subst}
 use denote.Struct.Props.{props}
-use Rattle.civil_items.specs.DigitRange.{IsDigits}
-use Rattle.civil_items.specs.declared.digits.Digits.{Digits}
+use Rattle.civil_items.specs.{DigitRange.{IsDigits}, declared.digits.Digits.{Digits}}
 
 -- that a number is in range has one proof
 one_range : (n : ℕ) → IsProp (IsDigits n)

@@ -1,11 +1,7 @@
 -- What is inside an error that is of the variant asked for.
 use Rattle.std.specs.Prelude.{Result, Ok, Err}
-use Rattle.civil_parts.specs.declared.error.ConversionRange.{ConversionRange as RangeOfConversion}
-use Rattle.civil_parts.specs.declared.error.ComponentRange.{ComponentRange as RangeOfComponent}
-use Rattle.civil_items.specs.declared.error.IndeterminateOffset.{IndeterminateOffset as UnknownOffset}
-use Rattle.civil_items.specs.declared.error.DifferentVariant.{DifferentVariant as OtherVariant}
-use Rattle.civil_parts.specs.declared.error.InvalidVariant.{InvalidVariant as NoVariant}
-use Rattle.civil_items.specs.declared.error.Error.{Error}
+use Rattle.civil_parts.specs.declared.error.{ConversionRange.{ConversionRange as RangeOfConversion}, ComponentRange.{ComponentRange as RangeOfComponent}, InvalidVariant.{InvalidVariant as NoVariant}}
+use Rattle.civil_items.specs.declared.error.{IndeterminateOffset.{IndeterminateOffset as UnknownOffset}, DifferentVariant.{DifferentVariant as OtherVariant}, Error.{Error}}
 use Rattle.civil_items.specs.declared.error.Error.TheVariants.{ConversionRange, ComponentRange, IndeterminateOffset, DifferentVariant, InvalidVariant}
 
 abbrev pub conversion_range_in : Error → Result RangeOfConversion OtherVariant

@@ -1,13 +1,6 @@
 -- When format items are equal.
-use Rattle.std.specs.Prelude.{◌≡◌, Bool, true}
-use Rattle.std.proofs.Common.{◌∙◌}
-use Rattle.std.specs.Bool.{Decides}
-use Rattle.std.specs.Cmp.{IsEquivalence, on_equiv}
-use Rattle.std.specs.Ordering.{on}
-use Rattle.civil_items.specs.declared.owned_format_item.OwnedFormatItem.{OwnedFormatItem}
-use Rattle.civil_items.specs.ItemTrees.{plain_of}
-use Rattle.civil_items.specs.Trees.{same}
-use Rattle.civil_items.specs.TreeLaws.{same-Decides, same_equiv}
+use Rattle.std.{specs.Prelude.{◌≡◌, Bool, true}, proofs.Common.{◌∙◌}, specs.Bool.{Decides}, specs.Cmp.{IsEquivalence, on_equiv}, specs.Ordering.{on}}
+use Rattle.civil_items.specs.{declared.owned_format_item.OwnedFormatItem.{OwnedFormatItem}, ItemTrees.{plain_of}, Trees.{same}, TreeLaws.{same-Decides, same_equiv}}
 
 -- the equality of items
 abbrev pub are_equal : OwnedFormatItem → OwnedFormatItem → Bool

@@ -1,11 +1,7 @@
 -- What trees format items are.
-use Rattle.std.specs.Prelude.{List, map, string_bytes, Result, Ok, Err}
-use Rattle.std.specs.Global.{Vec}
-use Rattle.civil_items.specs.declared.error.DifferentVariant.{DifferentVariant}
-use Rattle.civil_items.specs.declared.owned_format_item.OwnedFormatItem.{OwnedFormatItem, fold-OwnedFormatItem}
-use Rattle.civil_items.specs.declared.owned_format_item.OwnedFormatItem.TheOpen.{OwnedFormatItem-F}
-use Rattle.civil_items.specs.declared.format_item.BorrowedFormatItem.{BorrowedFormatItem, fold-BorrowedFormatItem}
-use Rattle.civil_items.specs.declared.format_item.BorrowedFormatItem.TheOpen.{BorrowedFormatItem-F}
+use Rattle.std.specs.{Prelude.{List, map, string_bytes, Result, Ok, Err}, Global.{Vec}}
+use Rattle.civil_items.specs.declared.{error.DifferentVariant.{DifferentVariant}, owned_format_item.OwnedFormatItem.{OwnedFormatItem, fold-OwnedFormatItem}, owned_format_item.OwnedFormatItem.TheOpen.{OwnedFormatItem-F}}
+use Rattle.civil_items.specs.declared.format_item.BorrowedFormatItem.{BorrowedFormatItem, fold-BorrowedFormatItem, TheOpen.{BorrowedFormatItem-F}}
 use Rattle.civil_items.specs.Trees.{Tree, Trees, literal, text, component, compound, optional, first, trees_of, plain, all_plain}
 
 -- one level of an item, whose items are trees already

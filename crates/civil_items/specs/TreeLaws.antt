@@ -1,11 +1,6 @@
 -- The test of trees decides whether they are one tree.
-use Rattle.std.specs.Prelude.{◌≡◌, ℕ, zero, suc, true, refl}
-use Rattle.std.specs.Bool.{Decides}
-use Rattle.std.specs.Cmp.{IsEquivalence, decided, unsigned_Decides, first_so, second_so}
-use Rattle.std.proofs.Common.{ap, sym, ◌∙◌}
-use Rattle.std.proofs.lemmas.Slice.Eq.{bytes_eq-Decides}
-use Rattle.civil_items.specs.declared.format_item.Component.{Component}
-use Rattle.civil_items.specs.declared.format_item.Component.TheVariants.{Year, Month, Day, Hour, Minute, Second, Subsecond, OffsetHour, OffsetMinute, OffsetSecond}
+use Rattle.std.{specs.Prelude.{◌≡◌, ℕ, zero, suc, true, refl}, specs.Bool.{Decides}, specs.Cmp.{IsEquivalence, decided, unsigned_Decides, first_so, second_so}, proofs.Common.{ap, sym, ◌∙◌}, proofs.lemmas.Slice.Eq.{bytes_eq-Decides}}
+use Rattle.civil_items.specs.declared.format_item.Component.{Component, TheVariants.{Year, Month, Day, Hour, Minute, Second, Subsecond, OffsetHour, OffsetMinute, OffsetSecond}}
 use Rattle.civil_items.specs.Trees.{Tree, Trees, literal, text, component, compound, optional, first, no_trees, tree, component_place, same, all_same}
 
 component_at : ℕ → Component

@@ -1,8 +1,6 @@
 -- The trees of format items.
 use Rattle.std.specs.Prelude.{ℕ, Bool, true, false, ◌&&◌, List, [], ◌∷◌, bytes_eq, nat_eq, Result, Ok, Err}
-use Rattle.civil_items.specs.declared.error.DifferentVariant.{DifferentVariant}
-use Rattle.civil_items.specs.declared.format_item.Component.{Component}
-use Rattle.civil_items.specs.declared.format_item.Component.TheVariants.{Year, Month, Day, Hour, Minute, Second, Subsecond, OffsetHour, OffsetMinute, OffsetSecond}
+use Rattle.civil_items.specs.declared.{error.DifferentVariant.{DifferentVariant}, format_item.Component.{Component}, format_item.Component.TheVariants.{Year, Month, Day, Hour, Minute, Second, Subsecond, OffsetHour, OffsetMinute, OffsetSecond}}
 
 mutual
   pub data Tree : Type 0 where

@@ -1,11 +1,6 @@
 //! Configurations as numbers.
 ghost use Rattle.std.specs.Prelude.{◌≡◌, Option, Some};
-ghost use Rattle.civil_items.specs.declared.digits.Digits.{Digits};
-ghost use Rattle.civil_items.specs.declared.config.Config.{Config};
-ghost use Rattle.civil_items.specs.declared.iso8601.FormattedComponents.{FormattedComponents};
-ghost use Rattle.civil_items.specs.declared.iso8601.DateKind.{DateKind};
-ghost use Rattle.civil_items.specs.declared.iso8601.TimePrecision.{TimePrecision};
-ghost use Rattle.civil_items.specs.declared.iso8601.OffsetPrecision.{OffsetPrecision};
+ghost use Rattle.civil_items.specs.declared.{digits.Digits.{Digits}, config.Config.{Config}, iso8601.FormattedComponents.{FormattedComponents}, iso8601.DateKind.{DateKind}, iso8601.TimePrecision.{TimePrecision}, iso8601.OffsetPrecision.{OffsetPrecision}};
 ghost use Rattle.civil_items.specs.Codes.{code, code_bytes, components_place, kind_place, unit_place, digits_of, digits_byte, precision_place, flag, Decodes};
 
 use crate::config::Config;

@@ -1,9 +1,6 @@
 //! When format items are equal.
-ghost use Rattle.std.specs.Prelude.{◌≡◌, nat_eq};
-ghost use Rattle.std.specs.Cmp.{partial_equiv_from_equiv};
-ghost use Rattle.civil_items.specs.ItemLaws.{are_equal, equal_equiv};
-ghost use Rattle.civil_items.specs.ItemTrees.{plain_of, plain_trees};
-ghost use Rattle.civil_items.specs.Trees.{same, all_same, literal, component, compound, component_place};
+ghost use Rattle.std.specs.{Prelude.{◌≡◌, nat_eq}, Cmp.{partial_equiv_from_equiv}};
+ghost use Rattle.civil_items.specs.{ItemLaws.{are_equal, equal_equiv}, ItemTrees.{plain_of, plain_trees}, Trees.{same, all_same, literal, component, compound, component_place}};
 
 use crate::format_item::Component;
 use crate::owned_format_item::OwnedFormatItem;

@@ -1,7 +1,6 @@
 //! Descriptions of formats that own what they hold.
 ghost use Rattle.std.specs.Prelude.{◌≡◌, IfOk};
-ghost use Rattle.civil_items.specs.ItemTrees.{tree_of, trees_in, told_items, borrowed_tree, borrowed_trees};
-ghost use Rattle.civil_items.specs.Trees.{compound, component, component_in, compound_in};
+ghost use Rattle.civil_items.specs.{ItemTrees.{tree_of, trees_in, told_items, borrowed_tree, borrowed_trees}, Trees.{compound, component, component_in, compound_in}};
 
 use crate::error::DifferentVariant;
 use crate::format_item::{BorrowedFormatItem, Component};

@@ -1,6 +1,5 @@
 //! Dates with times beside system times.
-ghost use Rattle.std.specs.Prelude.{◌≡◌, ℤ, ◌-ℤ◌, ◌↔◌, IsSome, IfSome};
-ghost use Rattle.std.specs.Ordering.{int_eq, int_cmp};
+ghost use Rattle.std.specs.{Prelude.{◌≡◌, ℤ, ◌-ℤ◌, ◌↔◌, IsSome, IfSome}, Ordering.{int_eq, int_cmp}};
 ghost use Rattle.civil_base.specs.DateTimes.{instant};
 ghost use Rattle.civil_parts.specs.Durations.{IsDuration};
 

@@ -1,7 +1,6 @@
 //! System times.
 ghost use Rattle.std.specs.Prelude.{◌≡◌, ◌≤◌, ◌*◌, is_some, IfSome, is_ok, IfOk, pos, ◌-ℤ◌, unsigned_abs};
-ghost use Rattle.civil_base.specs.DateTimes.{instant, offset_of};
-ghost use Rattle.civil_base.specs.Ranges.{is_in_years, far_seconds};
+ghost use Rattle.civil_base.specs.{DateTimes.{instant, offset_of}, Ranges.{is_in_years, far_seconds}};
 ghost use Rattle.civil_items.specs.SysTimes.{is_sys_time, IsSysTime};
 
 use civil_base::{ComponentRange, OffsetDateTime, Timestamp, UtcDateTime};

@@ -1,13 +1,7 @@
 -- The numbers and the names of months and weekdays, and which days lie how far apart.
-use Rattle.std.proofs.Common.{◌≡◌, refl, List, [], ◌∷◌, ◌++◌, map}
-use Rattle.std.specs.Prelude.{codes}
-use Rattle.std.specs.List.{flat_map}
-use Rattle.civil_parts.specs.declared.month.Month.{Month}
-use Rattle.civil_parts.specs.declared.month.Month.TheVariants.{January, February, March, April, May, June, July, August, September, October, November, December}
-use Rattle.civil_parts.specs.declared.weekday.Weekday.{Weekday}
-use Rattle.civil_parts.specs.declared.weekday.Weekday.TheVariants.{Monday, Tuesday, Wednesday, Thursday, Friday, Saturday, Sunday}
-use Rattle.civil_parts.specs.Months.{month_number, month_name, IsMonthBefore}
-use Rattle.civil_parts.specs.Weekdays.{weekday_number, weekday_name, days_from_monday, IsDaysBefore}
+use Rattle.std.{proofs.Common.{◌≡◌, refl, List, [], ◌∷◌, ◌++◌, map}, specs.Prelude.{codes}, specs.List.{flat_map}}
+use Rattle.civil_parts.specs.declared.{month.Month.{Month}, month.Month.TheVariants.{January, February, March, April, May, June, July, August, September, October, November, December}, weekday.Weekday.{Weekday}}
+use Rattle.civil_parts.specs.{declared.weekday.Weekday.TheVariants.{Monday, Tuesday, Wednesday, Thursday, Friday, Saturday, Sunday}, Months.{month_number, month_name, IsMonthBefore}, Weekdays.{weekday_number, weekday_name, days_from_monday, IsDaysBefore}}
 
 abbrev months : List Month
 months = January ∷ February ∷ March ∷ April ∷ May ∷ June ∷ July ∷ August ∷ September ∷ October ∷ November ∷ December ∷ []

@@ -1,7 +1,6 @@
 -- The numbers and the names of months.
 use Rattle.std.specs.Prelude.{◌≡◌, ℕ, ◌+◌, ◌%◌, ◌≤◌, List, codes}
-use Rattle.civil_parts.specs.declared.month.Month.{Month}
-use Rattle.civil_parts.specs.declared.month.Month.TheVariants.{January, February, March, April, May, June, July, August, September, October, November, December}
+use Rattle.civil_parts.specs.declared.month.Month.{Month, TheVariants.{January, February, March, April, May, June, July, August, September, October, November, December}}
 
 abbrev pub month_number : Month → ℕ
 month_number January = 1

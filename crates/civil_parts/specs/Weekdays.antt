@@ -1,7 +1,6 @@
 -- The numbers and the names of weekdays.
 use Rattle.std.specs.Prelude.{◌≡◌, ℕ, ◌+◌, ◌%◌, List, codes}
-use Rattle.civil_parts.specs.declared.weekday.Weekday.{Weekday}
-use Rattle.civil_parts.specs.declared.weekday.Weekday.TheVariants.{Monday, Tuesday, Wednesday, Thursday, Friday, Saturday, Sunday}
+use Rattle.civil_parts.specs.declared.weekday.Weekday.{Weekday, TheVariants.{Monday, Tuesday, Wednesday, Thursday, Friday, Saturday, Sunday}}
 
 -- the days from Sunday on, as the calendar numbers weekdays
 abbrev pub weekday_number : Weekday → ℕ

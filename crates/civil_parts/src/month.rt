@@ -1,6 +1,5 @@
 //! The months of the year.
-ghost use Rattle.std.specs.Prelude.{◌≡◌, ◌≢◌, ◌+◌, ◌%◌, ◌≤◌, ◌↔◌, IsOk, IfOk, MatchResult, Some};
-ghost use Rattle.std.specs.Fmt.{padded};
+ghost use Rattle.std.specs.{Prelude.{◌≡◌, ◌≢◌, ◌+◌, ◌%◌, ◌≤◌, ◌↔◌, IsOk, IfOk, MatchResult, Some}, Fmt.{padded}};
 ghost use Rattle.basics.specs.Days.{days_in_month};
 
 use crate::{ComponentRange, InvalidVariant};
@@ -152,8 +151,7 @@ impl TryFrom<u8> for Month {
 
 /// The month with that full English name. Every other text is refused.
 impl FromStr for Month {
-    ghost use Rattle.civil_parts.specs.Months.{month_name};
-    ghost use Rattle.civil_parts.specs.declared.month.Month.{Month};
+    ghost use Rattle.civil_parts.specs.{Months.{month_name}, declared.month.Month.{Month}};
 
     type Err = InvalidVariant;
 

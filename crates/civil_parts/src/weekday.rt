@@ -1,6 +1,5 @@
 //! The days of the week.
-ghost use Rattle.std.specs.Prelude.{◌≡◌, ◌≢◌, ◌+◌, ◌%◌, ◌<◌, MatchResult, Some};
-ghost use Rattle.std.specs.Fmt.{padded};
+ghost use Rattle.std.specs.{Prelude.{◌≡◌, ◌≢◌, ◌+◌, ◌%◌, ◌<◌, MatchResult, Some}, Fmt.{padded}};
 ghost use Rattle.civil_parts.specs.Weekdays.{weekday_number};
 
 use crate::InvalidVariant;
@@ -123,8 +122,7 @@ fn weekday_with(number: u8) -> Weekday
 
 /// The weekday with that full English name. Every other text is refused.
 impl FromStr for Weekday {
-    ghost use Rattle.civil_parts.specs.Weekdays.{weekday_name};
-    ghost use Rattle.civil_parts.specs.declared.weekday.Weekday.{Weekday};
+    ghost use Rattle.civil_parts.specs.{Weekdays.{weekday_name}, declared.weekday.Weekday.{Weekday}};
 
     type Err = InvalidVariant;
 

@@ -1,8 +1,7 @@
 //! Dates, times and instants: days by another calendar's count, texts that are read and written again, and what the constants are.
 ghost use Rattle.std.specs.Prelude.{◌≡◌, pos, neg_ℤ};
 ghost use Rattle.basics.specs.Days.{day as day_at};
-ghost use Rattle.civil_base.specs.Clock.{time_at};
-ghost use Rattle.civil_base.specs.DateTimes.{instant, offset_of};
+ghost use Rattle.civil_base.specs.{Clock.{time_at}, DateTimes.{instant, offset_of}};
 
 use crate::checks::{hash_of, holds};
 use civil_base::Month::{December, February, January, March, October};

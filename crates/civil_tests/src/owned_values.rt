@@ -1,6 +1,5 @@
 //! Texts, lists and maps that own what is in them: each call with ample memory.
-ghost use Rattle.std.specs.Prelude.{◌≡◌, ◌==◌, not, length};
-ghost use Rattle.std.specs.List.{list_all};
+ghost use Rattle.std.specs.{Prelude.{◌≡◌, ◌==◌, not, length}, List.{list_all}};
 ghost use Rattle.std.specs.FinMap as map;
 
 use crate::checks::holds;

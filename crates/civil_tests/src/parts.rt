@@ -1,7 +1,6 @@
 //! Months, weekdays and lengths of time: the names that they print, and what the constants are.
 ghost use Rattle.std.specs.Prelude.{◌≡◌, IfSome, pos};
-ghost use Rattle.civil_parts.specs.Durations.{longest, shortest};
-ghost use Rattle.civil_parts.specs.declared.weekday.Weekday.TheVariants.{Monday};
+ghost use Rattle.civil_parts.specs.{Durations.{longest, shortest}, declared.weekday.Weekday.TheVariants.{Monday}};
 
 use crate::checks::{hash_of, holds, prints};
 use civil_parts::{

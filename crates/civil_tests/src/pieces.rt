@@ -1,6 +1,5 @@
 //! Inputs in pieces over exchanges in memory, and what surrounds a program.
-ghost use Rattle.std.specs.Prelude.{◌≡◌, ◌≤◌, ◌==◌, ◌++◌, ◌∷◌, [], ℤ, List, ℕ, Option, Some, length, IfOk, OnOk, is_some};
-ghost use Rattle.std.specs.Option.{unwrap_or};
+ghost use Rattle.std.specs.{Prelude.{◌≡◌, ◌≤◌, ◌==◌, ◌++◌, ◌∷◌, [], ℤ, List, ℕ, Option, Some, length, IfOk, OnOk, is_some}, Option.{unwrap_or}};
 ghost use Rattle.civil_base.specs.DateTimes.{instant};
 
 use crate::checks::holds;

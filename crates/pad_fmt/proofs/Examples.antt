@@ -1,13 +1,8 @@
 -- The definitions on worked examples, as Rust's own formatting gives them.
-use Rattle.std.specs.Prelude.{◌≡◌, ℕ, negsuc, true, false, [], ◌∷◌, Option, Some, None, codes, refl}
-use Rattle.std.specs.Fmt.{char_count, digits, take_chars}
+use Rattle.std.specs.{Prelude.{◌≡◌, ℕ, negsuc, true, false, [], ◌∷◌, Option, Some, None, codes, refl}, Fmt.{char_count, digits, take_chars}}
 use lib.Utf8.{encode}
-use Rattle.pad_fmt.specs.Options.{Options, default_options}
-use Rattle.pad_fmt.specs.Padding.{padded, padded_width}
-use Rattle.pad_fmt.specs.Exact.{is_exact_truth, is_exact_char, is_exact_text, is_exact_buffer, is_exact_unsigned, is_exact_signed}
-use Rattle.pad_fmt.specs.Text.{shown_text, text_width, buffer_width, char_width, truth_width}
-use Rattle.pad_fmt.specs.Number.{shown_number, shown_signed, shown_unsigned, signed_width, unsigned_width}
-use Rattle.pad_fmt.specs.declared.options.Alignment.{Alignment}
+use Rattle.pad_fmt.specs.{Options.{Options, default_options}, Padding.{padded, padded_width}, Exact.{is_exact_truth, is_exact_char, is_exact_text, is_exact_buffer, is_exact_unsigned, is_exact_signed}}
+use Rattle.pad_fmt.specs.{Text.{shown_text, text_width, buffer_width, char_width, truth_width}, Number.{shown_number, shown_signed, shown_unsigned, signed_width, unsigned_width}, declared.options.Alignment.{Alignment}}
 use Rattle.pad_fmt.specs.declared.options.Alignment.TheVariants.{Left, Center, Right}
 
 abbrev wide : ℕ → Option Alignment → Options

@@ -1,9 +1,6 @@
 -- Lemmas on what calls on a sink leave, one call after another.
-use Rattle.std.specs.Prelude.{◌≡◌, ℕ, zero, suc, ◌+◌, ◌-◌, ◌<◌, List, [], ◌++◌, refl, Result, Ok, Err}
-use Rattle.std.specs.List.{repeat}
-use Rattle.std.proofs.Common.{add-one, arith, ap, sym, ◌∙◌, append_assoc, append-nil, length-append}
-use Rattle.pad_fmt.specs.declared.sink.Full.{Full}
-use Rattle.pad_fmt.specs.Sink.{Took, TookNothing, TookPrefix, WroteInPieces}
+use Rattle.std.{specs.Prelude.{◌≡◌, ℕ, zero, suc, ◌+◌, ◌-◌, ◌<◌, List, [], ◌++◌, refl, Result, Ok, Err}, specs.List.{repeat}, proofs.Common.{add-one, arith, ap, sym, ◌∙◌, append_assoc, append-nil, length-append}}
+use Rattle.pad_fmt.specs.{declared.sink.Full.{Full}, Sink.{Took, TookNothing, TookPrefix, WroteInPieces}}
 
 module _ {S : Type 0} {text : S → List ℕ} {room : S → ℕ} where
   -- first these bytes, then those

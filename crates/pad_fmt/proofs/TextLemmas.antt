@@ -1,8 +1,6 @@
 -- Lemmas on the characters of a text, from byte to byte.
-use Rattle.std.specs.Prelude.{◌≡◌, ℕ, zero, suc, ◌+◌, ◌-◌, ◌<◌, ◌==◌, true, false, List, [], ◌∷◌, ◌++◌, length, take, drop, slice_index, count_by, if◌then◌else◌, refl}
-use Rattle.std.specs.Fmt.{char_count, take_chars, is_char_start}
-use Rattle.std.proofs.Common.{arith, ap, sym, ◌∙◌, ne_eqb, add-one}
-use Rattle.std.proofs.lemmas.List.Sums.{sum_by-cons}
+use Rattle.std.specs.{Prelude.{◌≡◌, ℕ, zero, suc, ◌+◌, ◌-◌, ◌<◌, ◌==◌, true, false, List, [], ◌∷◌, ◌++◌, length, take, drop, slice_index, count_by, if◌then◌else◌, refl}, Fmt.{char_count, take_chars, is_char_start}}
+use Rattle.std.proofs.{Common.{arith, ap, sym, ◌∙◌, ne_eqb, add-one}, lemmas.List.Sums.{sum_by-cons}}
 use Rattle.pad_fmt.specs.TextLaws.{char_count-empty, char_count-cons, take_chars-cons}
 
 -- each character has one first byte

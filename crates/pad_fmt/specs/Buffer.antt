@@ -1,8 +1,5 @@
 -- How buffers of text compare: as the lists of their bytes do.
-use Rattle.std.specs.Prelude.{ℕ, Bool, List, Option, Some, nat_eq}
-use Rattle.std.specs.Cmp.Lexicographic.{pointwise, slice_cmp}
-use Rattle.std.specs.Ordering.{nat_cmp}
-use Rattle.std.specs.declared.cmp.Ordering.{Ordering}
+use Rattle.std.specs.{Prelude.{ℕ, Bool, List, Option, Some, nat_eq}, Cmp.Lexicographic.{pointwise, slice_cmp}, Ordering.{nat_cmp}, declared.cmp.Ordering.{Ordering}}
 
 -- the two texts have the same bytes
 abbrev pub are_same_bytes : List ℕ → List ℕ → Bool

@@ -1,10 +1,6 @@
 -- The laws that std asks of an equality, an order and a hash, for buffers of text.
-use Rattle.std.specs.Prelude.{◌≡◌, ℕ, List, IsTrue}
-use Rattle.std.specs.Cmp.{IsEquivalence, IsPartialEquivalence, IsTotalOrder, partial_equiv_from_equiv}
-use Rattle.std.specs.Cmp.Lexicographic.{nat_list_eq_equiv, nat_list_cmp_total}
-use Rattle.std.specs.Cmp.Rules.{hashing}
+use Rattle.std.{specs.Prelude.{◌≡◌, ℕ, List, IsTrue}, specs.Cmp.{IsEquivalence, IsPartialEquivalence, IsTotalOrder, partial_equiv_from_equiv}, specs.Cmp.Lexicographic.{nat_list_eq_equiv, nat_list_cmp_total}, specs.Cmp.Rules.{hashing}, proofs.Common.{rules}}
 use Rattle.std.specs.Hash as fed
-use Rattle.std.proofs.Common.{rules}
 use Rattle.pad_fmt.specs.Buffer.{are_same_bytes, cmp_by_bytes}
 
 pub same_bytes_equivalence : IsEquivalence are_same_bytes

@@ -1,8 +1,5 @@
 -- Where the width that a value answers is that of its text, under an ASCII fill.
-use Rattle.std.specs.Prelude.{ℕ, ℤ, Bool, true, not, ◌&&◌, List}
-use Rattle.std.specs.Char.{is_ascii}
-use Rattle.std.specs.List.{list_all}
-use Rattle.std.specs.Option.{is_none}
+use Rattle.std.specs.{Prelude.{ℕ, ℤ, Bool, true, not, ◌&&◌, List}, Char.{is_ascii}, List.{list_all}, Option.{is_none}}
 use Rattle.pad_fmt.specs.Options.{Options}
 
 -- no precision cuts the text

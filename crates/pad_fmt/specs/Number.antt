@@ -1,11 +1,6 @@
 -- What a whole number is due to give under its options.
-use Rattle.std.specs.Prelude.{ℕ, ℤ, ◌+◌, Bool, false, ◌||◌, List, [], ◌++◌, length, if◌then◌else◌, unsigned_abs, codes}
-use Rattle.std.specs.List.{repeat}
-use Rattle.std.specs.Int.{is_negative}
-use Rattle.std.specs.Fmt.{decimal}
-use Rattle.pad_fmt.specs.Options.{Options}
-use Rattle.pad_fmt.specs.Padding.{padded, shortfall}
-use Rattle.pad_fmt.specs.declared.options.Alignment.TheVariants.{Right}
+use Rattle.std.specs.{Prelude.{ℕ, ℤ, ◌+◌, Bool, false, ◌||◌, List, [], ◌++◌, length, if◌then◌else◌, unsigned_abs, codes}, List.{repeat}, Int.{is_negative}, Fmt.{decimal}}
+use Rattle.pad_fmt.specs.{Options.{Options}, Padding.{padded, shortfall}, declared.options.Alignment.TheVariants.{Right}}
 
 -- `-` below 0, and else `+` where it is asked for
 abbrev pub sign_text : Bool → Options → List ℕ

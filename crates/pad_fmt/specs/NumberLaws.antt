@@ -1,16 +1,8 @@
 -- The width law of whole numbers: what is due has as many bytes as its padded width says.
-use Rattle.std.specs.Prelude.{◌≡◌, ℕ, ℤ, ◌+◌, ◌<◌, Bool, true, false, List, [], ◌++◌, length, ◌||◌, unsigned_abs, if◌then◌else◌, codes}
-use Rattle.std.specs.List.{repeat}
-use Rattle.std.specs.Int.{is_negative}
-use Rattle.std.specs.Fmt.{decimal}
-use Rattle.std.proofs.Common.{arith, ap, sym, ◌∙◌, length-append}
-use Rattle.std.proofs.lemmas.Bool.{not-true}
-use Rattle.pad_fmt.specs.Options.{Options}
-use Rattle.pad_fmt.specs.Exact.{is_exact_unsigned, is_exact_signed}
-use Rattle.pad_fmt.specs.Padding.{padded_width, HasPaddedWidth, shortfall, padded}
-use Rattle.pad_fmt.specs.PaddingLaws.{length-repeat_byte, length-padded}
-use Rattle.pad_fmt.specs.Number.{sign_text, shown_number, shown_unsigned, unsigned_width, shown_signed, signed_width}
-use Rattle.pad_fmt.specs.declared.options.Alignment.TheVariants.{Right}
+use Rattle.std.specs.{Prelude.{◌≡◌, ℕ, ℤ, ◌+◌, ◌<◌, Bool, true, false, List, [], ◌++◌, length, ◌||◌, unsigned_abs, if◌then◌else◌, codes}, List.{repeat}, Int.{is_negative}, Fmt.{decimal}}
+use Rattle.std.proofs.{Common.{arith, ap, sym, ◌∙◌, length-append}, lemmas.Bool.{not-true}}
+use Rattle.pad_fmt.specs.{Options.{Options}, Exact.{is_exact_unsigned, is_exact_signed}, Padding.{padded_width, HasPaddedWidth, shortfall, padded}, PaddingLaws.{length-repeat_byte, length-padded}}
+use Rattle.pad_fmt.specs.{Number.{sign_text, shown_number, shown_unsigned, unsigned_width, shown_signed, signed_width}, declared.options.Alignment.TheVariants.{Right}}
 
 -- shared by all whole numbers
 number_law : (sign : List ℕ) (magnitude : ℕ) (f : Options) → f.fill < 128

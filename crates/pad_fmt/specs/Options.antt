@@ -1,6 +1,5 @@
 -- The options of a format, as contracts see them.
-use Rattle.std.specs.Prelude.{◌≡◌, ℕ, Bool, false, Option, None}
-use Rattle.std.specs.Borrow.{MutBor}
+use Rattle.std.specs.{Prelude.{◌≡◌, ℕ, Bool, false, Option, None}, Borrow.{MutBor}}
 use Rattle.pad_fmt.specs.declared.options.Alignment.{Alignment}
 
 -- the fill is a character; width and precision are numbers of characters

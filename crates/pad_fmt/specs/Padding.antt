@@ -1,9 +1,6 @@
 -- Padding to a requested width.
-use Rattle.std.specs.Prelude.{◌≡◌, ℕ, ◌-◌, ◌/◌, List, ◌++◌, length, unwrap_or, max, encode_utf8}
-use Rattle.std.specs.List.{repeat}
-use Rattle.pad_fmt.specs.Options.{Options}
-use Rattle.pad_fmt.specs.declared.options.Alignment.{Alignment}
-use Rattle.pad_fmt.specs.declared.options.Alignment.TheVariants.{Left, Center, Right}
+use Rattle.std.specs.{Prelude.{◌≡◌, ℕ, ◌-◌, ◌/◌, List, ◌++◌, length, unwrap_or, max, encode_utf8}, List.{repeat}}
+use Rattle.pad_fmt.specs.{Options.{Options}, declared.options.Alignment.{Alignment}, declared.options.Alignment.TheVariants.{Left, Center, Right}}
 
 -- the requested width, where none is as good as 0
 abbrev pub requested : Options → ℕ

@@ -1,12 +1,6 @@
 -- The width of what is padded: under an ASCII fill each fill character is one byte.
-use Rattle.std.specs.Prelude.{◌≡◌, ℕ, zero, suc, ◌+◌, ◌-◌, ◌<◌, ◌≤◌, List, [], ◌∷◌, ◌++◌, length, unwrap_or, refl}
-use Rattle.std.specs.List.{repeat}
-use Rattle.std.proofs.Common.{arith, ap, length-append}
-use Rattle.std.proofs.lemmas.Str.{encode_ascii}
-use Rattle.pad_fmt.specs.Options.{Options}
-use Rattle.pad_fmt.specs.Padding.{requested, shortfall, part_before, fills, padded}
-use Rattle.pad_fmt.specs.declared.options.Alignment.{Alignment}
-use Rattle.pad_fmt.specs.declared.options.Alignment.TheVariants.{Left, Center, Right}
+use Rattle.std.{specs.Prelude.{◌≡◌, ℕ, zero, suc, ◌+◌, ◌-◌, ◌<◌, ◌≤◌, List, [], ◌∷◌, ◌++◌, length, unwrap_or, refl}, specs.List.{repeat}, proofs.Common.{arith, ap, length-append}, proofs.lemmas.Str.{encode_ascii}}
+use Rattle.pad_fmt.specs.{Options.{Options}, Padding.{requested, shortfall, part_before, fills, padded}, declared.options.Alignment.{Alignment}, declared.options.Alignment.TheVariants.{Left, Center, Right}}
 
 pub length-repeat_byte : (n b : ℕ) → length (repeat n (b ∷ [])) ≡ n
 length-repeat_byte zero b = refl

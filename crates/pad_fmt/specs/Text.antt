@@ -1,10 +1,6 @@
 -- What a text, a character and a truth value are due to give under their options.
-use Rattle.std.specs.Prelude.{ℕ, Bool, List, length, Option, Some, None, min, unwrap_or, if◌then◌else◌, codes, encode_utf8}
-use Rattle.std.specs.Option.{option_map}
-use Rattle.std.specs.Fmt.{char_count, take_chars}
-use Rattle.pad_fmt.specs.Options.{Options}
-use Rattle.pad_fmt.specs.Padding.{padded}
-use Rattle.pad_fmt.specs.declared.options.Alignment.TheVariants.{Left}
+use Rattle.std.specs.{Prelude.{ℕ, Bool, List, length, Option, Some, None, min, unwrap_or, if◌then◌else◌, codes, encode_utf8}, Option.{option_map}, Fmt.{char_count, take_chars}}
+use Rattle.pad_fmt.specs.{Options.{Options}, Padding.{padded}, declared.options.Alignment.TheVariants.{Left}}
 
 -- the text cut to so many characters as the precision says
 abbrev pub cut : Option ℕ → List ℕ → List ℕ

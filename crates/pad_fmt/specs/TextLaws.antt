@@ -1,22 +1,9 @@
 -- The width law of texts, characters and truth values: an ASCII character is one byte.
-use Rattle.std.specs.Prelude.{◌≡◌, ℕ, zero, suc, ◌+◌, ◌-◌, ◌<◌, ◌==◌, min, Bool, true, false, if◌then◌else◌, refl, List, [], ◌∷◌, length, take, Option, Some, None, unwrap_or, encode_utf8, codes}
-use Rattle.std.specs.Option.{option_map, is_none}
-use Rattle.std.specs.Char.{is_ascii}
-use Rattle.std.specs.Str.{IsAscii}
+use Rattle.std.specs.{Prelude.{◌≡◌, ℕ, zero, suc, ◌+◌, ◌-◌, ◌<◌, ◌==◌, min, Bool, true, false, if◌then◌else◌, refl, List, [], ◌∷◌, length, take, Option, Some, None, unwrap_or, encode_utf8, codes}, Option.{option_map, is_none}, Char.{is_ascii}, Str.{IsAscii}}
 use Rattle.std.specs.Fmt.{char_count, take_chars, is_char_start}
-use Rattle.std.proofs.Common.{arith, lit<, ap, sym, ◌∙◌}
-use Rattle.std.proofs.Math.Seq.{take-nil}
-use Rattle.std.proofs.lemmas.Bool.{and_parts}
-use Rattle.std.proofs.lemmas.Bool.Decides.{nat_tests}
-use Rattle.std.proofs.lemmas.List.{length-take}
-use Rattle.std.proofs.lemmas.Str.{encode_ascii, IsAscii-take}
-use Rattle.std.proofs.lemmas.Str.Ascii.{IsAscii-cons, IsAscii-nil}
-use Rattle.pad_fmt.specs.Options.{Options}
-use Rattle.pad_fmt.specs.Padding.{padded_width, HasPaddedWidth}
-use Rattle.pad_fmt.specs.PaddingLaws.{length-padded}
-use Rattle.pad_fmt.specs.Exact.{is_uncut, is_ascii_text, is_exact_truth, is_exact_char, is_exact_text, is_exact_buffer}
-use Rattle.pad_fmt.specs.Text.{cut, shown_text, text_width, buffer_width, char_width, truth_text, truth_width}
-use Rattle.pad_fmt.specs.declared.options.Alignment.TheVariants.{Left}
+use Rattle.std.proofs.{Common.{arith, lit<, ap, sym, ◌∙◌}, Math.Seq.{take-nil}, lemmas.Bool.{and_parts}, lemmas.Bool.Decides.{nat_tests}, lemmas.List.{length-take}, lemmas.Str.{encode_ascii, IsAscii-take}, lemmas.Str.Ascii.{IsAscii-cons, IsAscii-nil}}
+use Rattle.pad_fmt.specs.{Options.{Options}, Padding.{padded_width, HasPaddedWidth}, PaddingLaws.{length-padded}, Exact.{is_uncut, is_ascii_text, is_exact_truth, is_exact_char, is_exact_text, is_exact_buffer}}
+use Rattle.pad_fmt.specs.{Text.{cut, shown_text, text_width, buffer_width, char_width, truth_text, truth_width}, declared.options.Alignment.TheVariants.{Left}}
 
 pub char_count-empty : char_count [] ≡ 0
 unfolding char_count

@@ -3,27 +3,10 @@ use Rattle.std.specs.Prelude.{◌≡◌, ℕ, suc, ℤ, ◌<◌, Bool, true, fal
 use denote.Bor.{Bor}
 use denote.RattleType.{RattleType}
 use mir.Syntax.{Dict}
-use Rattle.std.specs.Global.{Global, Box}
-use Rattle.std.specs.Borrow.{MutBor}
-use Rattle.std.specs.declared.string.String.{String}
-use Rattle.std.specs.declared.borrow.CowStr.{CowStr}
-use Rattle.std.specs.declared.num.Wrapping.{Wrapping}
-use Rattle.std.specs.declared.rc.Rc.{Rc}
-use Rattle.std.specs.declared.sync.Arc.{Arc}
-use Rattle.std.specs.Arc.{arc_value}
-use Rattle.std.specs.Cow.{cow_str_bytes}
-use Rattle.std.specs.Char.{is_ascii}
-use Rattle.std.specs.Option.{is_none}
-use Rattle.std.specs.Str.{IsAscii}
-use Rattle.std.proofs.Common.{arith, ap}
-use Rattle.std.proofs.lemmas.Bool.{and_from, not_from_false}
-use Rattle.std.proofs.lemmas.Bool.Decides.{nat_tests}
-use Rattle.pad_fmt.specs.Exact.{is_ascii_text}
-use Rattle.pad_fmt.specs.Options.{Options}
-use Rattle.pad_fmt.specs.Padding.{HasPaddedWidth}
-use Rattle.pad_fmt.specs.declared.smart_display.SmartDisplay.{Ghosts}
-use Rattle.pad_fmt.specs.TextLaws.{buffer_law}
-use Rattle.pad_fmt.specs.declared.text.Text.{Text}
+use Rattle.std.specs.{Global.{Global, Box}, Borrow.{MutBor}, declared.string.String.{String}, declared.borrow.CowStr.{CowStr}, declared.num.Wrapping.{Wrapping}, declared.rc.Rc.{Rc}, declared.sync.Arc.{Arc}, Arc.{arc_value}, Cow.{cow_str_bytes}}
+use Rattle.std.specs.{Char.{is_ascii}, Option.{is_none}, Str.{IsAscii}}
+use Rattle.std.proofs.{Common.{arith, ap}, lemmas.Bool.{and_from, not_from_false}, lemmas.Bool.Decides.{nat_tests}}
+use Rattle.pad_fmt.specs.{Exact.{is_ascii_text}, Options.{Options}, Padding.{HasPaddedWidth}, declared.smart_display.SmartDisplay.{Ghosts}, TextLaws.{buffer_law}, declared.text.Text.{Text}}
 use Rattle.pad_fmt.specs.contracts.implementations.texts.BoolSmartDisplay.TheImpl as of_bool
 use Rattle.pad_fmt.specs.contracts.implementations.texts.BoolSmartDisplay.TheImpl.Laws as laws_bool
 use Rattle.pad_fmt.specs.contracts.implementations.texts.CharSmartDisplay.TheImpl as of_char

@@ -1,10 +1,7 @@
 //! Text of limited size, without memory of its own.
-ghost use Rattle.std.specs.Prelude.{◌↔◌, ◌≤◌, ◌+◌, IsOk, OnOk, OnErr, ◌≡◌, ℕ, ◌-◌, IsTrue, List, [], ◌++◌, length, refl, Some};
-ghost use Rattle.std.specs.Cmp.Lexicographic.{texts_po, texts_ties};
-ghost use Rattle.std.specs.Fmt.{padded};
+ghost use Rattle.std.specs.{Prelude.{◌↔◌, ◌≤◌, ◌+◌, IsOk, OnOk, OnErr, ◌≡◌, ℕ, ◌-◌, IsTrue, List, [], ◌++◌, length, refl, Some}, Cmp.Lexicographic.{texts_po, texts_ties}, Fmt.{padded}};
 ghost use Rattle.std.specs.Hash as fed;
-ghost use Rattle.pad_fmt.specs.Buffer.{are_same_bytes, cmp_by_bytes, partial_cmp_by_bytes};
-ghost use Rattle.pad_fmt.specs.BufferLaws.{same_bytes_equivalence, same_bytes_partial_equivalence, bytes_total_order, same_bytes_same_hash};
+ghost use Rattle.pad_fmt.specs.{Buffer.{are_same_bytes, cmp_by_bytes, partial_cmp_by_bytes}, BufferLaws.{same_bytes_equivalence, same_bytes_partial_equivalence, bytes_total_order, same_bytes_same_hash}};
 
 use crate::sink::{Full, TextSink};
 use arrayvec::{ArrayString, CapacityError};

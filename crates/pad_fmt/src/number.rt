@@ -1,9 +1,6 @@
 //! Whole numbers: a sign and decimal digits.
-ghost use Rattle.std.specs.Prelude.{◌≡◌, ◌+◌, ◌≤◌, ◌++◌, length, codes};
-ghost use Rattle.std.specs.List.{repeat};
-ghost use Rattle.std.specs.Fmt.{decimal};
-ghost use Rattle.pad_fmt.specs.Sink.{WroteInPieces};
-ghost use Rattle.pad_fmt.specs.Number.{sign_text, shown_number, unsigned_width};
+ghost use Rattle.std.specs.{Prelude.{◌≡◌, ◌+◌, ◌≤◌, ◌++◌, length, codes}, List.{repeat}, Fmt.{decimal}};
+ghost use Rattle.pad_fmt.specs.{Sink.{WroteInPieces}, Number.{sign_text, shown_number, unsigned_width}};
 
 use crate::options::{Alignment, FormatterOptions};
 use crate::padding::{pad_on, shortfall, write_between};

@@ -1,9 +1,6 @@
 //! Padding to a requested width.
-ghost use Rattle.std.specs.Prelude.{◌≡◌, ◌-◌, ◌≤◌, ◌++◌, encode_utf8};
-ghost use Rattle.std.specs.List.{repeat};
-ghost use Rattle.pad_fmt.specs.Sink.{WroteInPieces};
-ghost use Rattle.pad_fmt.specs.Padding.{padded, fills, part_before, shortfall};
-ghost use Rattle.pad_fmt.specs.declared.options.Alignment.TheVariants.{Left};
+ghost use Rattle.std.specs.{Prelude.{◌≡◌, ◌-◌, ◌≤◌, ◌++◌, encode_utf8}, List.{repeat}};
+ghost use Rattle.pad_fmt.specs.{Sink.{WroteInPieces}, Padding.{padded, fills, part_before, shortfall}, declared.options.Alignment.TheVariants.{Left}};
 
 use crate::options::{Alignment, FormatterOptions};
 use crate::sink::{Full, TextSink};

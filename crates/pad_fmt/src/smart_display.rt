@@ -1,8 +1,6 @@
 //! Values that know the width of their text.
 ghost use Rattle.std.specs.Prelude.{◌≡◌, ℕ, ◌<◌, Bool, IsTrue, List, length};
-ghost use Rattle.pad_fmt.specs.Sink.{WroteInPieces};
-ghost use Rattle.pad_fmt.specs.Options.{Options};
-ghost use Rattle.pad_fmt.specs.Padding.{padded_width};
+ghost use Rattle.pad_fmt.specs.{Sink.{WroteInPieces}, Options.{Options}, Padding.{padded_width}};
 
 use crate::metadata::WidthAnd;
 use crate::options::FormatterOptions;

@@ -1,8 +1,6 @@
 //! Texts, cut and padded by characters.
-ghost use Rattle.std.specs.Prelude.{◌≡◌};
-ghost use Rattle.std.specs.Fmt.{char_count, is_char_start, take_chars};
-ghost use Rattle.pad_fmt.specs.Sink.{WroteInPieces};
-ghost use Rattle.pad_fmt.specs.Text.{cut, shown_text, text_width};
+ghost use Rattle.std.specs.{Prelude.{◌≡◌}, Fmt.{char_count, is_char_start, take_chars}};
+ghost use Rattle.pad_fmt.specs.{Sink.{WroteInPieces}, Text.{cut, shown_text, text_width}};
 
 use crate::options::{Alignment, FormatterOptions};
 use crate::padding::pad_on;

@@ -1,41 +1,16 @@
 -- All that a zone says of an instant, by the span in force and by the kind of a file.
-use Rattle.std.proofs.Common.{◌≡◌, ◌∙◌, ◌≤◌, ℕ, Bool, true, false, cond, List, [], ◌∷◌, length, filter, ℤ, pos, ◌+ℤ◌, ◌*ℤ◌, ◌≤ℤ◌, ◌<ℤ◌, int_le, int_lt, to_z, of_z, FitsSigned, w64, refl, sym, ap, subst, arith}
+use Rattle.std.proofs.{Common.{◌≡◌, ◌∙◌, ◌≤◌, ℕ, Bool, true, false, cond, List, [], ◌∷◌, length, filter, ℤ, pos, ◌+ℤ◌, ◌*ℤ◌, ◌≤ℤ◌, ◌<ℤ◌, int_le, int_lt, to_z, of_z, FitsSigned, w64, refl, sym, ap, subst, arith}, lemmas.Int.{ints}, lemmas.List.{length-map}}
 use Rattle.std.specs.Prelude.{IfSome, Option, Some, None}
-use Rattle.std.proofs.lemmas.Int.{ints}
-use Rattle.std.proofs.lemmas.List.{length-map}
-use Rattle.basics.specs.ComparisonLaws.{lt_le}
-use Rattle.basics.specs.SignedLaws.{signed_casts}
-use Rattle.civil_base.specs.DateTimes.{instant, local_of, offset_of}
-use Rattle.civil_base.specs.Instants.{local_at, seconds_of}
-use Rattle.civil_base.specs.Layout.{day_part, time_part}
-use Rattle.civil_base.specs.RangeLaws.{offset_least, years_end}
-use Rattle.civil_base.specs.Ranges.{is_in_years, IsInYears, IsOffset}
+use Rattle.basics.specs.{ComparisonLaws.{lt_le}, SignedLaws.{signed_casts}}
+use Rattle.civil_base.specs.{DateTimes.{instant, local_of, offset_of}, Instants.{local_at, seconds_of}, Layout.{day_part, time_part}, RangeLaws.{offset_least, years_end}, Ranges.{is_in_years, IsInYears, IsOffset}}
 use Rattle.civil_base.specs.declared.offset_date_time.OffsetDateTime.{OffsetDateTime}
-use Rattle.zone_spans.specs.Entries.{Entry}
-use Rattle.zone_spans.specs.declared.span.FixedTimespan.{FixedTimespan}
-use Rattle.zone_spans.specs.Schedules.{total_at}
-use Rattle.tz_ever.specs.Ever.{ever_span, ever_total}
-use Rattle.tz_ever.specs.EverShown.{ever_seen}
-use Rattle.tz_ever.specs.InForce.{span_at, span_by}
-use Rattle.tz_ever.specs.Unrolled.{unrolled, unrolled_end}
-use Rattle.tz_ever.specs.declared.ever_set.EverSet.{EverSet}
-use Rattle.tz_tzif.specs.FooterForce.{FooterZone}
-use Rattle.tz_tzif.specs.InForce.{kind_at, kind_in}
-use Rattle.tz_zone.specs.Compiles.{spans_of}
-use Rattle.tz_zone.specs.InForce.{in_force, shown_of}
-use Rattle.tz_zone.specs.SecondLaws.{IsSecond, second_is, total_is}
-use Rattle.tz_zone.specs.Sets.{schedule_of, shift_of, shifts_of, span_in, total_of_span}
-use Rattle.tz_zone.specs.SpanLaws.{total_from_cut}
-use Rattle.tz_zone.specs.Spans.{IsCut}
+use Rattle.zone_spans.specs.{Entries.{Entry}, declared.span.FixedTimespan.{FixedTimespan}, Schedules.{total_at}}
+use Rattle.tz_ever.specs.{Ever.{ever_span, ever_total}, EverShown.{ever_seen}, InForce.{span_at, span_by}, Unrolled.{unrolled, unrolled_end}, declared.ever_set.EverSet.{EverSet}}
+use Rattle.tz_tzif.specs.{FooterForce.{FooterZone}, InForce.{kind_at, kind_in}}
+use Rattle.tz_zone.specs.{Compiles.{spans_of}, InForce.{in_force, shown_of}, SecondLaws.{IsSecond, second_is, total_is}, Sets.{schedule_of, shift_of, shifts_of, span_in, total_of_span}, SpanLaws.{total_from_cut}, Spans.{IsCut}}
 use Rattle.tz_zone.specs.declared.set.FixedTimespanSet.{FixedTimespanSet}
 use Rattle.zone_tzif_core.specs.Zones.{ZoneValue}
-use Rattle.sefunjaro.specs.Answers.{end_second, IsAnswered}
-use Rattle.sefunjaro.specs.AnswerSteps.{IsAround, IsOfSpan, IsToldBySpan}
-use Rattle.sefunjaro.specs.Changes.{last_span, saving_at}
-use Rattle.sefunjaro.specs.Clocks.{clock_at}
-use Rattle.sefunjaro.specs.Replies.{span_on}
-use Rattle.sefunjaro.specs.Zones.{given_with, spans_with, total_with}
-use Rattle.sefunjaro.specs.declared.answer.Answer.{Answer}
+use Rattle.sefunjaro.specs.{Answers.{end_second, IsAnswered}, AnswerSteps.{IsAround, IsOfSpan, IsToldBySpan}, Changes.{last_span, saving_at}, Clocks.{clock_at}, Replies.{span_on}, Zones.{given_with, spans_with, total_with}, declared.answer.Answer.{Answer}}
 use Rattle.sefunjaro.specs.declared.answer.Around.{Around}
 use Rattle.sefunjaro.proofs.ChangeLemmas.{on_is, saving_is}
 

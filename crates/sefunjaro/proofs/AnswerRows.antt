@@ -1,20 +1,11 @@
 -- Worked examples: how long an answer holds. At 1970-01-01 00:00:00 UTC clocks are set ahead from offset 0 to one hour.
-use Rattle.std.proofs.Common.{◌≡◌, cond, ℕ, ℤ, pos, negsuc, ◌≤ℤ◌, Bool, false, List, [], ◌∷◌, map, filter, int_le, int_lt, refl, ap, arith}
-use Rattle.std.specs.Prelude.{None}
-use Rattle.std.proofs.lemmas.Int.{ints}
+use Rattle.std.{proofs.Common.{◌≡◌, cond, ℕ, ℤ, pos, negsuc, ◌≤ℤ◌, Bool, false, List, [], ◌∷◌, map, filter, int_le, int_lt, refl, ap, arith}, specs.Prelude.{None}, proofs.lemmas.Int.{ints}}
 use Rattle.basics.specs.ComparisonLaws.{lt_fail}
-use Rattle.civil_base.specs.Instants.{seconds_of}
-use Rattle.civil_base.specs.Layout.{day_part, time_part}
-use Rattle.tz_zone.specs.SecondLaws.{second_is}
-use Rattle.zone_spans.specs.Entries.{Entry}
-use Rattle.zone_spans.specs.declared.span.FixedTimespan.{FixedTimespan}
-use Rattle.tz_zone.specs.declared.set.FixedTimespanSet.{FixedTimespanSet}
+use Rattle.civil_base.specs.{Instants.{seconds_of}, Layout.{day_part, time_part}}
+use Rattle.tz_zone.specs.{SecondLaws.{second_is}, declared.set.FixedTimespanSet.{FixedTimespanSet}}
+use Rattle.zone_spans.specs.{Entries.{Entry}, declared.span.FixedTimespan.{FixedTimespan}}
 use Rattle.zone_tzif_core.specs.Zones.{KindValue}
-use Rattle.sefunjaro.specs.Answers.{begun_at, end_second, ended_at, least_second, IsAnswer, IsAnswered, IsHeldOn}
-use Rattle.sefunjaro.specs.Changes.{next_after, settled_changes}
-use Rattle.sefunjaro.specs.Clocks.{clock_at}
-use Rattle.sefunjaro.specs.Rooms.{filled}
-use Rattle.sefunjaro.specs.declared.answer.Answer.{Answer}
+use Rattle.sefunjaro.specs.{Answers.{begun_at, end_second, ended_at, least_second, IsAnswer, IsAnswered, IsHeldOn}, Changes.{next_after, settled_changes}, Clocks.{clock_at}, Rooms.{filled}, declared.answer.Answer.{Answer}}
 
 abbrev jump : ℤ → ℤ
 jump t = cond (int_lt t (pos 0)) (pos 0) (pos 3600)

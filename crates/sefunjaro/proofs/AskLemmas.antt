@@ -1,9 +1,6 @@
 -- The instants of a local time, one after another.
-use Rattle.std.proofs.Common.{◌≡◌, ◌+◌, ◌<◌, ◌≤◌, ℕ, suc, zero, List, [], ◌∷◌, ◌++◌, length, get_or, map, take, drop, refl, sym, ap, ◌∙◌, arith}
-use Rattle.std.proofs.lemmas.List.{length-map}
-use Rattle.sefunjaro.specs.Rooms.{filled, filled_at}
-use Rattle.sefunjaro.proofs.CaseLemmas.{no_zero, next}
-use Rattle.sefunjaro.proofs.RoomLemmas.{filled_more}
+use Rattle.std.proofs.{Common.{◌≡◌, ◌+◌, ◌<◌, ◌≤◌, ℕ, suc, zero, List, [], ◌∷◌, ◌++◌, length, get_or, map, take, drop, refl, sym, ap, ◌∙◌, arith}, lemmas.List.{length-map}}
+use Rattle.sefunjaro.{specs.Rooms.{filled, filled_at}, proofs.CaseLemmas.{no_zero, next}, proofs.RoomLemmas.{filled_more}}
 
 take_one : {A : Type 0} → (all : List A) (n : ℕ) (x : A) (rest : List A) → drop n all ≡ x ∷ rest → take (suc n) all ≡ take n all ++ x ∷ []
 take_one [] zero x rest e = absurd (no_zero (ap length e))

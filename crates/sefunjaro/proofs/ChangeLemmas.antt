@@ -1,25 +1,12 @@
 -- Changes by their places.
-use Rattle.std.proofs.Common.{◌≡◌, ◌+◌, ◌<◌, ◌≤◌, ℕ, zero, suc, Bool, true, false, cond, ℤ, pos, ◌≤ℤ◌, ◌<ℤ◌, List, [], ◌∷◌, length, map, take, drop, refl, sym, ap, ◌∙◌, arith}
-use Rattle.std.specs.Prelude.{◌&&◌, not, Option, Some, None, filter, int_le, int_lt}
-use Rattle.std.specs.List.{slice_get, slice_index_or}
-use Rattle.std.specs.Ordering.{int_eq}
-use Rattle.std.proofs.lemmas.Int.{ints}
-use Rattle.std.proofs.lemmas.List.{length-map}
-use Rattle.std.proofs.lemmas.Option.{same_Some, none-some}
+use Rattle.std.proofs.{Common.{◌≡◌, ◌+◌, ◌<◌, ◌≤◌, ℕ, zero, suc, Bool, true, false, cond, ℤ, pos, ◌≤ℤ◌, ◌<ℤ◌, List, [], ◌∷◌, length, map, take, drop, refl, sym, ap, ◌∙◌, arith}, lemmas.Int.{ints}, lemmas.List.{length-map}, lemmas.Option.{same_Some, none-some}}
+use Rattle.std.specs.{Prelude.{◌&&◌, not, Option, Some, None, filter, int_le, int_lt}, List.{slice_get, slice_index_or}, Ordering.{int_eq}}
 use Rattle.basics.specs.ComparisonLaws.{le_pass, le_fail, lt_pass, lt_fail, lt_from_pass, lt_from_fail, eq_pass}
-use Rattle.zone_spans.specs.Collapse.{is_same_span}
-use Rattle.zone_spans.specs.Entries.{Entry}
-use Rattle.zone_spans.specs.declared.span.FixedTimespan.{FixedTimespan}
-use Rattle.tz_zone.specs.Sets.{shift_of, shifts_of, span_in, total_of_span}
-use Rattle.tz_zone.specs.Spans.{shift_at, IsCut, TimesDontFall}
-use Rattle.tz_zone.specs.declared.set.FixedTimespanSet.{FixedTimespanSet}
-use Rattle.sefunjaro.specs.Changes.{change_of, changes_of, is_within, last_span, next_after, saving_at, settled_changes, span_before}
-use Rattle.sefunjaro.specs.ChangeSteps.{how_many, with_change, AreParted, HasPut, IsChangeAt}
-use Rattle.sefunjaro.specs.Replies.{span_on}
-use Rattle.sefunjaro.specs.Rooms.{filled, filled_at}
+use Rattle.zone_spans.specs.{Collapse.{is_same_span}, Entries.{Entry}, declared.span.FixedTimespan.{FixedTimespan}}
+use Rattle.tz_zone.specs.{Sets.{shift_of, shifts_of, span_in, total_of_span}, Spans.{shift_at, IsCut, TimesDontFall}, declared.set.FixedTimespanSet.{FixedTimespanSet}}
+use Rattle.sefunjaro.specs.{Changes.{change_of, changes_of, is_within, last_span, next_after, saving_at, settled_changes, span_before}, ChangeSteps.{how_many, with_change, AreParted, HasPut, IsChangeAt}, Replies.{span_on}, Rooms.{filled, filled_at}}
 use Rattle.sefunjaro.specs.declared.changes.Change.{Change}
-use Rattle.sefunjaro.proofs.AskLemmas.{all_taken, dropped}
-use Rattle.sefunjaro.proofs.CaseLemmas.{no_zero, next}
+use Rattle.sefunjaro.proofs.{AskLemmas.{all_taken, dropped}, CaseLemmas.{no_zero, next}}
 
 -- what is in force after k entries
 abbrev span_after : FixedTimespan → Entry → List Entry → ℕ → FixedTimespan

@@ -1,10 +1,8 @@
 -- Worked examples: the changes of a small zone, of which two entries lie at one second, what they change, and the saving in force.
-use Rattle.std.proofs.Common.{◌≡◌, ℕ, ℤ, Bool, true, false, List, pos, negsuc, [], ◌∷◌, refl}
-use Rattle.std.specs.Prelude.{Some, None, codes}
+use Rattle.std.{proofs.Common.{◌≡◌, ℕ, ℤ, Bool, true, false, List, pos, negsuc, [], ◌∷◌, refl}, specs.Prelude.{Some, None, codes}}
 use Rattle.zone_spans.specs.declared.span.FixedTimespan.{FixedTimespan}
 use Rattle.tz_zone.specs.declared.set.FixedTimespanSet.{FixedTimespanSet}
-use Rattle.sefunjaro.specs.Changes.{changes_of, next_after, saving_at, settled_changes, span_before, window}
-use Rattle.sefunjaro.specs.declared.changes.Change.{Change}
+use Rattle.sefunjaro.specs.{Changes.{changes_of, next_after, saving_at, settled_changes, span_before, window}, declared.changes.Change.{Change}}
 
 -- a standard offset, a saving and an abbreviation
 abbrev span : ℤ → ℤ → List ℕ → FixedTimespan

@@ -1,25 +1,11 @@
 -- Zones of files: what holds while their owner lends them, and what a file's kinds are.
-use Rattle.std.proofs.Common.{◌≡◌, ℕ, Bool, true, false, List, [], ℤ, pos, negsuc, Option, Some, None, int_le, refl, sym, ◌∙◌, subst, arith}
-use Rattle.std.specs.Prelude.{◌&&◌, IfErr, IfOk, MatchResult, Result, Ok, Err}
-use Rattle.std.proofs.lemmas.Int.{ints}
+use Rattle.std.{proofs.Common.{◌≡◌, ℕ, Bool, true, false, List, [], ℤ, pos, negsuc, Option, Some, None, int_le, refl, sym, ◌∙◌, subst, arith}, specs.Prelude.{◌&&◌, IfErr, IfOk, MatchResult, Result, Ok, Err}, proofs.lemmas.Int.{ints}}
 use Rattle.basics.specs.ComparisonLaws.{le_pass}
-use Rattle.civil_base.specs.Ranges.{IsOffset}
-use Rattle.civil_base.specs.RangeLaws.{offset_least, offset_greatest}
-use Rattle.tz_tzif.specs.FooterForce.{FooterZone, standard_total}
-use Rattle.tz_tzif.specs.Ranges.{IsFooterOf}
-use Rattle.tz_tzif.specs.Standing.{kind_of, stands_for, with_saving}
-use Rattle.tz_tzif.specs.Values.{FooterValue, SavingValue}
+use Rattle.civil_base.specs.{Ranges.{IsOffset}, RangeLaws.{offset_least, offset_greatest}}
+use Rattle.tz_tzif.specs.{FooterForce.{FooterZone, standard_total}, Ranges.{IsFooterOf}, Standing.{kind_of, stands_for, with_saving}, Values.{FooterValue, SavingValue}, Zones.{value_of, says_of, IsZoneOf}, declared.zone.TzifTz.{TzifTz}}
 use Rattle.tz_posix.specs.Seconds.{east_of}
-use Rattle.tz_tzif.specs.Zones.{value_of, says_of, IsZoneOf}
-use Rattle.tz_tzif.specs.declared.zone.TzifTz.{TzifTz}
-use Rattle.zone_tzif_core.specs.Shown.{kind_shown}
-use Rattle.zone_tzif_core.specs.declared.values.Kind.{Kind}
-use Rattle.zone_tzif_core.specs.Zones.{KindValue, ZoneValue, is_small}
-use Rattle.sefunjaro.specs.Files.{file_value, SaysOf}
-use Rattle.sefunjaro.specs.Posix.{standard_kind, IsPosixFault, IsStandardOf}
-use Rattle.sefunjaro.specs.declared.file.FileZone.{FileZone}
-use Rattle.sefunjaro.specs.declared.file.PosixFault.{PosixFault}
-use Rattle.sefunjaro.specs.declared.file.PosixFault.TheVariants.{NoMemory}
+use Rattle.zone_tzif_core.specs.{Shown.{kind_shown}, declared.values.Kind.{Kind}, Zones.{KindValue, ZoneValue, is_small}}
+use Rattle.sefunjaro.specs.{Files.{file_value, SaysOf}, Posix.{standard_kind, IsPosixFault, IsStandardOf}, declared.file.FileZone.{FileZone}, declared.file.PosixFault.{PosixFault}, declared.file.PosixFault.TheVariants.{NoMemory}}
 
 -- what holds of the zone that is lent holds by what the footer says
 pub lent : (zone : FileZone) (tz : TzifTz) → IsZoneOf [] (file_value zone) tz → (P : ZoneValue → Option FooterZone → Type 0)

@@ -1,9 +1,7 @@
 -- A file that is refused, where memory is wanting too.
 use Rattle.std.proofs.Common.{[], ◌∷◌, ◌++◌, length, ap, arith, length-append}
-use Rattle.zone_tzif_core.specs.Denotes.{Says, zone_file, old_file}
-use Rattle.zone_tzif_core.specs.Zones.{ZoneValue}
-use Rattle.sefunjaro.specs.Files.{IsFileFault}
-use Rattle.sefunjaro.specs.declared.file.FileFault.TheVariants.{Refused, NoMemory}
+use Rattle.zone_tzif_core.specs.{Denotes.{Says, zone_file, old_file}, Zones.{ZoneValue}}
+use Rattle.sefunjaro.specs.{Files.{IsFileFault}, declared.file.FileFault.TheVariants.{Refused, NoMemory}}
 
 -- no bytes are no file
 no_bytes : (value : ZoneValue) → ¬ (Says [] value)

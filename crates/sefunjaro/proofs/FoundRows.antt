@@ -1,17 +1,9 @@
 -- Worked examples: one instant of a local time, by rules. At 1970-01-01 00:00:00 UTC clocks are set ahead from offset 0 to one hour.
-use Rattle.std.proofs.Common.{◌≡◌, ◌<◌, cond, ℕ, zero, suc, ℤ, pos, negsuc, [], ◌∷◌, lit<, lit≤, refl, ap, arith}
-use Rattle.std.specs.Prelude.{int_lt, slice_index_or}
-use Rattle.std.proofs.lemmas.Int.{ints}
+use Rattle.std.{proofs.Common.{◌≡◌, ◌<◌, cond, ℕ, zero, suc, ℤ, pos, negsuc, [], ◌∷◌, lit<, lit≤, refl, ap, arith}, specs.Prelude.{int_lt, slice_index_or}, proofs.lemmas.Int.{ints}}
 use Rattle.basics.specs.Days.{days_in_month, is_leap}
 use Rattle.civil_base.specs.Instants.{seconds_of}
-use Rattle.sefunjaro.specs.Clocks.{clock_shown, IsClock}
-use Rattle.sefunjaro.specs.Found.{AreFound, IsFirstFaulty, IsFound, IsFoundInGap, IsFoundOf}
-use Rattle.sefunjaro.specs.declared.clock.Clock.{Clock}
-use Rattle.sefunjaro.specs.declared.found.FoldRule.TheVariants.{First, Second}
-use Rattle.sefunjaro.specs.declared.found.Found.{Found}
-use Rattle.sefunjaro.specs.declared.found.GapRule.{GapRule}
-use Rattle.sefunjaro.specs.declared.found.GapRule.TheVariants.{Before, After, None}
-use Rattle.sefunjaro.specs.declared.zone.Reading.{Reading}
+use Rattle.sefunjaro.specs.{Clocks.{clock_shown, IsClock}, Found.{AreFound, IsFirstFaulty, IsFound, IsFoundInGap, IsFoundOf}, declared.clock.Clock.{Clock}, declared.found.FoldRule.TheVariants.{First, Second}, declared.found.Found.{Found}}
+use Rattle.sefunjaro.specs.declared.{found.GapRule.{GapRule}, found.GapRule.TheVariants.{Before, After, None}, zone.Reading.{Reading}}
 
 abbrev jump : ℤ → ℤ
 jump t = cond (int_lt t (pos 0)) (pos 0) (pos 3600)

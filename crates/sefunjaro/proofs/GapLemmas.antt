@@ -1,22 +1,12 @@
 -- Local times that clocks skip.
-use Rattle.std.proofs.Common.{length, ◌≡◌, ◌+◌, ℕ, Bool, false, filter, Option, ℤ, pos, ◌+ℤ◌, ◌-ℤ◌, ◌*ℤ◌, ◌≤ℤ◌, ◌<ℤ◌, int_le, int_lt, sym, ap, ◌∙◌, subst, arith}
-use Rattle.std.proofs.lemmas.Int.{ints}
-use Rattle.std.proofs.lemmas.List.{length-map}
-use Rattle.civil_base.specs.Instants.{instant_at, local_at, nanos_of, seconds_of}
-use Rattle.civil_base.specs.Ranges.{IsOffset}
-use Rattle.civil_base.specs.RangeLaws.{offset_least, offset_greatest}
-use Rattle.tz_tzif.specs.FooterForce.{FooterZone}
+use Rattle.std.proofs.{Common.{length, ◌≡◌, ◌+◌, ℕ, Bool, false, filter, Option, ℤ, pos, ◌+ℤ◌, ◌-ℤ◌, ◌*ℤ◌, ◌≤ℤ◌, ◌<ℤ◌, int_le, int_lt, sym, ap, ◌∙◌, subst, arith}, lemmas.Int.{ints}, lemmas.List.{length-map}}
+use Rattle.civil_base.specs.{Instants.{instant_at, local_at, nanos_of, seconds_of}, Ranges.{IsOffset}, RangeLaws.{offset_least, offset_greatest}}
+use Rattle.tz_tzif.specs.{FooterForce.{FooterZone}, Lasting.{IsTold}, InForce.{kind_at, kind_in, told_total_at, total_in}}
 use Rattle.basics.specs.ComparisonLaws.{le_itself}
-use Rattle.tz_tzif.specs.Lasting.{IsTold}
-use Rattle.tz_tzif.specs.InForce.{kind_at, kind_in, told_total_at, total_in}
 use Rattle.zone_spans.specs.Schedules.{Schedule, instants, last_total, total_at}
-use Rattle.tz_zone.specs.InForce.{all_in_force, in_force}
-use Rattle.tz_zone.specs.InstantLaws.{instants_are}
-use Rattle.tz_zone.specs.SecondLaws.{IsSecond, second_is, one_second}
+use Rattle.tz_zone.specs.{InForce.{all_in_force, in_force}, InstantLaws.{instants_are}, SecondLaws.{IsSecond, second_is, one_second}}
 use Rattle.zone_tzif_core.specs.Zones.{ZoneValue}
-use Rattle.sefunjaro.specs.Gaps.{IsSkippedBy}
-use Rattle.sefunjaro.specs.Stretches.{IsStretch}
-use Rattle.sefunjaro.specs.GapPlaces.{nth_offset, HoldsSeconds, IsNeverRead}
+use Rattle.sefunjaro.specs.{Gaps.{IsSkippedBy}, Stretches.{IsStretch}, GapPlaces.{nth_offset, HoldsSeconds, IsNeverRead}}
 
 reads : (x k total : ℤ) → total ≡ k → (instant_at x k +ℤ pos 1000000000 *ℤ total) ≡ x
 reads x k total e = omega (arith, ints, e)

@@ -1,9 +1,6 @@
 -- Worked examples: which change skips a local time. At 1970-01-01 00:00:00 UTC clocks are set ahead from offset 0 to one hour.
-use Rattle.std.proofs.Common.{◌≡◌, cond, ℤ, pos, negsuc, refl, sym, arith}
-use Rattle.std.specs.Prelude.{int_lt}
-use Rattle.std.proofs.lemmas.Int.{ints}
-use Rattle.sefunjaro.specs.Gaps.{IsSkippedBy}
-use Rattle.sefunjaro.specs.declared.gap.Gap.{Gap}
+use Rattle.std.{proofs.Common.{◌≡◌, cond, ℤ, pos, negsuc, refl, sym, arith}, specs.Prelude.{int_lt}, proofs.lemmas.Int.{ints}}
+use Rattle.sefunjaro.specs.{Gaps.{IsSkippedBy}, declared.gap.Gap.{Gap}}
 
 abbrev jump : ℤ → ℤ
 jump t = cond (int_lt t (pos 0)) (pos 0) (pos 3600)

@@ -1,24 +1,10 @@
 -- The only instant of a local time that lies well within a stretch.
-use Rattle.std.proofs.Common.{◌≡◌, [], ◌∷◌, map, ℤ, pos, ◌+ℤ◌, ◌-ℤ◌, ◌*ℤ◌, ◌≤ℤ◌, ◌<ℤ◌, refl, sym, ap, ◌∙◌, subst, arith}
-use Rattle.std.specs.Prelude.{Contains}
-use Rattle.std.proofs.lemmas.Int.{ints}
-use Rattle.civil_base.specs.Instants.{instant_at, nanos_of, seconds_of}
-use Rattle.civil_base.specs.Ranges.{IsOffset}
-use Rattle.civil_base.specs.RangeLaws.{offset_least, offset_greatest}
-use Rattle.tz_zone.specs.InForce.{all_in_force, in_force, AreInstants}
-use Rattle.tz_zone.specs.InstantLaws.{from_reading, instants_one, reads_back}
-use Rattle.tz_zone.specs.RisingLaws.{contains_head, cases_more}
-use Rattle.tz_zone.specs.SecondLaws.{second_is}
+use Rattle.std.{proofs.Common.{◌≡◌, [], ◌∷◌, map, ℤ, pos, ◌+ℤ◌, ◌-ℤ◌, ◌*ℤ◌, ◌≤ℤ◌, ◌<ℤ◌, refl, sym, ap, ◌∙◌, subst, arith}, specs.Prelude.{Contains}, proofs.lemmas.Int.{ints}}
+use Rattle.civil_base.specs.{Instants.{instant_at, nanos_of, seconds_of}, Ranges.{IsOffset}, RangeLaws.{offset_least, offset_greatest}}
+use Rattle.tz_zone.specs.{InForce.{all_in_force, in_force, AreInstants}, InstantLaws.{from_reading, instants_one, reads_back}, RisingLaws.{contains_head, cases_more}, SecondLaws.{second_is}}
 use Rattle.zone_spans.specs.Schedules.{instants}
-use Rattle.sefunjaro.specs.Asked.{reading_of}
-use Rattle.sefunjaro.specs.Found.{by_fold, found_of, IsFound, IsFoundOf}
-use Rattle.sefunjaro.specs.GapPlaces.{HoldsSeconds}
-use Rattle.sefunjaro.specs.Steadiness.{IsSteady}
-use Rattle.sefunjaro.specs.Stretches.{IsKnown}
-use Rattle.sefunjaro.specs.declared.found.FoldRule.{FoldRule}
-use Rattle.sefunjaro.specs.declared.found.FoldRule.TheVariants.{First, Second}
-use Rattle.sefunjaro.specs.declared.found.GapRule.{GapRule}
-use Rattle.sefunjaro.specs.declared.zone.Reading.{Reading}
+use Rattle.sefunjaro.specs.{Asked.{reading_of}, Found.{by_fold, found_of, IsFound, IsFoundOf}, GapPlaces.{HoldsSeconds}, Steadiness.{IsSteady}, Stretches.{IsKnown}, declared.found.FoldRule.{FoldRule}, declared.found.FoldRule.TheVariants.{First, Second}}
+use Rattle.sefunjaro.specs.declared.{found.GapRule.{GapRule}, zone.Reading.{Reading}}
 use Rattle.sefunjaro.proofs.FoundLemmas.{second_by}
 
 module _ (total : ℤ → ℤ) (x from until o : ℤ) (holds : (t : ℤ) → total t ≡ total (nanos_of (seconds_of t))) (range : (t : ℤ) → IsOffset (total t))

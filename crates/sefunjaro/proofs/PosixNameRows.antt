@@ -1,9 +1,6 @@
 -- Worked examples: which names POSIX has a place for.
-use Rattle.std.proofs.Common.{◌≡◌, true, false, refl, [], ◌∷◌, map}
-use Rattle.std.specs.Prelude.{List, ℕ, Option, Some, None, codes}
-use Rattle.tz_posix.specs.declared.date.Date.TheVariants.{M}
-use Rattle.tz_posix.specs.declared.time.Time.{Time}
-use Rattle.tz_posix.specs.Values.{TzValue, expanded}
+use Rattle.std.{proofs.Common.{◌≡◌, true, false, refl, [], ◌∷◌, map}, specs.Prelude.{List, ℕ, Option, Some, None, codes}}
+use Rattle.tz_posix.specs.{declared.date.Date.TheVariants.{M}, declared.time.Time.{Time}, Values.{TzValue, expanded}}
 use Rattle.sefunjaro.specs.PosixNames.{has_posix_names, is_posix_name, is_posix_string}
 
 -- two letters, an underscore, letters past ASCII (in UTF-8) and a space are none

@@ -1,6 +1,5 @@
 -- Worked examples: the standard time of POSIX strings.
-use Rattle.std.proofs.Common.{◌≡◌, true, false, pos, negsuc, refl}
-use Rattle.std.specs.Prelude.{Some, None, codes}
+use Rattle.std.{proofs.Common.{◌≡◌, true, false, pos, negsuc, refl}, specs.Prelude.{Some, None, codes}}
 use Rattle.tz_posix.specs.Seconds.{offset_seconds, time_seconds}
 use Rattle.tz_tzif.specs.Values.{FooterValue}
 use Rattle.sefunjaro.specs.Posix.{standard_kind}

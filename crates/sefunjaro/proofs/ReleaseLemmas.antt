@@ -1,9 +1,6 @@
 -- A release that a text names is something.
-use Rattle.std.proofs.Common.{◌≡◌, ℕ, ◌<◌, List, false, cond, length, Some, None, sym, ap, ◌∙◌, arith}
-use Rattle.std.specs.Prelude.{◌==◌}
-use Rattle.std.proofs.lemmas.Bool.Decides.{nat_tests}
-use Rattle.zone_source.specs.ReleaseLaws.{release_line}
-use Rattle.zone_source.specs.Releases.{release_of}
+use Rattle.std.{proofs.Common.{◌≡◌, ℕ, ◌<◌, List, false, cond, length, Some, None, sym, ap, ◌∙◌, arith}, specs.Prelude.{◌==◌}, proofs.lemmas.Bool.Decides.{nat_tests}}
+use Rattle.zone_source.specs.{ReleaseLaws.{release_line}, Releases.{release_of}}
 use Rattle.sefunjaro.specs.Releases.{if_some}
 
 not_none : (text : List ℕ) → 0 < length text → (length text == 0) ≡ false

@@ -1,19 +1,10 @@
 -- What replies see of a zone.
-use Rattle.std.proofs.Common.{◌≡◌, ◌≤◌, ℕ, zero, suc, ℤ, pos, ◌-ℤ◌, List, [], ◌∷◌, ◌++◌, length, map, filter, Bool, cond, refl, ap, sym, ◌∙◌, arith, true, false}
-use Rattle.std.specs.Prelude.{int_le, int_lt}
+use Rattle.std.{proofs.Common.{◌≡◌, ◌≤◌, ℕ, zero, suc, ℤ, pos, ◌-ℤ◌, List, [], ◌∷◌, ◌++◌, length, map, filter, Bool, cond, refl, ap, sym, ◌∙◌, arith, true, false}, specs.Prelude.{int_le, int_lt}, proofs.lemmas.Int.{ints}}
 use Rattle.basics.specs.ComparisonLaws.{lt_pass, lt_fail, le_from_pass, le_from_fail}
-use Rattle.std.proofs.lemmas.Int.{ints}
-use Rattle.civil_base.specs.DateTimes.{instant}
-use Rattle.civil_base.specs.declared.offset_date_time.OffsetDateTime.{OffsetDateTime}
-use Rattle.zone_spans.specs.Entries.{Entry, total}
-use Rattle.zone_spans.specs.Schedules.{instants}
-use Rattle.tz_zone.specs.InForce.{all_in_force, in_force, shown_of}
-use Rattle.tz_zone.specs.Sets.{span_in, total_of_span}
-use Rattle.tz_zone.specs.declared.set.FixedTimespanSet.{FixedTimespanSet}
-use Rattle.sefunjaro.specs.Changes.{last_span, span_before}
-use Rattle.sefunjaro.specs.Replies.{span_on}
-use Rattle.sefunjaro.specs.Rooms.{filled}
-use Rattle.sefunjaro.proofs.ChangeLemmas.{by_place}
+use Rattle.civil_base.specs.{DateTimes.{instant}, declared.offset_date_time.OffsetDateTime.{OffsetDateTime}}
+use Rattle.zone_spans.specs.{Entries.{Entry, total}, Schedules.{instants}}
+use Rattle.tz_zone.specs.{InForce.{all_in_force, in_force, shown_of}, Sets.{span_in, total_of_span}, declared.set.FixedTimespanSet.{FixedTimespanSet}}
+use Rattle.sefunjaro.{specs.Changes.{last_span, span_before}, specs.Replies.{span_on}, specs.Rooms.{filled}, proofs.ChangeLemmas.{by_place}}
 
 -- the total of a span by its number
 pub total_is : (set : FixedTimespanSet) (k : ℕ) → k ≤ length set.others → total_of_span set k ≡ total (span_in set k)

@@ -1,11 +1,9 @@
 -- A worked example: what replies see of a small zone.
-use Rattle.std.proofs.Common.{◌≡◌, ℤ, List, pos, negsuc, [], ◌∷◌, ℕ, map, refl}
-use Rattle.std.specs.Prelude.{None, codes}
+use Rattle.std.{proofs.Common.{◌≡◌, ℤ, List, pos, negsuc, [], ◌∷◌, ℕ, map, refl}, specs.Prelude.{None, codes}}
 use Rattle.zone_replies.specs.Views.{InForce}
 use Rattle.zone_spans.specs.declared.span.FixedTimespan.{FixedTimespan}
 use Rattle.tz_zone.specs.declared.set.FixedTimespanSet.{FixedTimespanSet}
-use Rattle.sefunjaro.specs.Changes.{settled_changes, span_before, window}
-use Rattle.sefunjaro.specs.Replies.{reply_view, span_on}
+use Rattle.sefunjaro.specs.{Changes.{settled_changes, span_before, window}, Replies.{reply_view, span_on}}
 
 abbrev span : ℤ → ℤ → List ℕ → FixedTimespan
 span standard saving name = record { utc_offset = standard; dst_offset = saving; name = name }

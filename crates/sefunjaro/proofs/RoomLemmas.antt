@@ -1,6 +1,5 @@
 -- Rooms that are filled.
-use Rattle.std.proofs.Common.{◌≡◌, ◌∙◌, ◌+◌, ◌-◌, ◌≤◌, ℕ, zero, suc, List, [], ◌∷◌, ◌++◌, length, take, drop, refl, ap, append-nil, length-drop, zero-add, arith, slice_set}
-use Rattle.std.proofs.lemmas.List.{drop_all, take_all}
+use Rattle.std.proofs.{Common.{◌≡◌, ◌∙◌, ◌+◌, ◌-◌, ◌≤◌, ℕ, zero, suc, List, [], ◌∷◌, ◌++◌, length, take, drop, refl, ap, append-nil, length-drop, zero-add, arith, slice_set}, lemmas.List.{drop_all, take_all}}
 use Rattle.sefunjaro.specs.Rooms.{filled, filled_at, filled_from}
 
 -- what fits in front, and what is left of the room

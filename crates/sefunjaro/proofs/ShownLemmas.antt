@@ -1,20 +1,11 @@
 -- Seconds that clocks show, and their texts.
 use Rattle.std.proofs.Common.{◌≡◌, ◌∙◌, ◌+◌, ◌<◌, ◌≤◌, ℕ, ℤ, Bool, true, false, cond, List, [], ◌∷◌, ◌++◌, length, get_or, take, refl, sym, ap, subst, arith, append_assoc, append-nil, pos, ◌+ℤ◌, to_z, of_z, to_z-of_z, FitsSigned, w32, w64}
-use Rattle.std.specs.Prelude.{Option, Some, None, not, nat_le, nat_lt}
-use Rattle.std.specs.List.{position_or_len}
-use Rattle.std.proofs.lemmas.Bool.{and_parts, leb-true, ltb-false}
-use Rattle.std.proofs.lemmas.List.{take_more}
-use Rattle.std.proofs.lemmas.List.Sums.{prefix_len_passes}
-use Rattle.std.proofs.lemmas.Int.{ints}
+use Rattle.std.proofs.lemmas.{Bool.{and_parts, leb-true, ltb-false}, List.{take_more}, List.Sums.{prefix_len_passes}, Int.{ints}}
+use Rattle.std.specs.{Prelude.{Option, Some, None, not, nat_le, nat_lt}, List.{position_or_len}}
 use Rattle.basics.specs.SignedLaws.{signed_casts}
-use Rattle.civil_base.specs.DateTimes.{instant, local_of, offset_of}
-use Rattle.civil_base.specs.Instants.{instant_at, local_at, nanos_of}
-use Rattle.civil_base.specs.Layout.{day_part, local_text, offset_text, time_part, zoned_text}
-use Rattle.civil_base.specs.RangeLaws.{years_begin, years_end}
-use Rattle.civil_base.specs.Ranges.{is_in_years, IsInYears}
+use Rattle.civil_base.specs.{DateTimes.{instant, local_of, offset_of}, Instants.{instant_at, local_at, nanos_of}, Layout.{day_part, local_text, offset_text, time_part, zoned_text}, RangeLaws.{years_begin, years_end}, Ranges.{is_in_years, IsInYears}}
 use Rattle.civil_base.specs.declared.offset_date_time.OffsetDateTime.{OffsetDateTime}
-use Rattle.sefunjaro.specs.Clocks.{clock_at}
-use Rattle.sefunjaro.specs.Shown.{clock_shown_at, is_shown, line_of, most_texts, textless_place, texts_of, unshown_place, AreShown}
+use Rattle.sefunjaro.specs.{Clocks.{clock_at}, Shown.{clock_shown_at, is_shown, line_of, most_texts, textless_place, texts_of, unshown_place, AreShown}}
 
 no_place : (b : Bool) (n : ℕ) → cond b (Some n) None ≡ None → b ≡ false
 no_place true n e = absurd (cc)

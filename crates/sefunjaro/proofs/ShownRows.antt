@@ -1,10 +1,7 @@
 -- Worked examples: seconds that clocks show, and their texts. At 1970-01-01 00:00:00 UTC clocks are set ahead from offset 0 to one hour.
-use Rattle.std.proofs.Common.{◌≡◌, cond, ℕ, ℤ, pos, negsuc, [], ◌∷◌, ◌++◌, Some, None, refl}
-use Rattle.std.specs.Prelude.{int_lt}
+use Rattle.std.{proofs.Common.{◌≡◌, cond, ℕ, ℤ, pos, negsuc, [], ◌∷◌, ◌++◌, Some, None, refl}, specs.Prelude.{int_lt}}
 use Rattle.civil_base.specs.Layout.{day_part, time_part, zoned_text}
-use Rattle.sefunjaro.specs.Clocks.{clock_at}
-use Rattle.sefunjaro.specs.Rooms.{filled, filled_from}
-use Rattle.sefunjaro.specs.Shown.{clock_shown_at, clocks_of, line_of, textless_within, texts_of, unshown_place}
+use Rattle.sefunjaro.specs.{Clocks.{clock_at}, Rooms.{filled, filled_from}, Shown.{clock_shown_at, clocks_of, line_of, textless_within, texts_of, unshown_place}}
 
 abbrev jump : ℤ → ℤ
 jump t = cond (int_lt t (pos 0)) (pos 0) (pos 3600)

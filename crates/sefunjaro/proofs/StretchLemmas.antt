@@ -1,20 +1,11 @@
 -- The total throughout a span, and throughout seconds of one cycle.
 use Rattle.std.proofs.Common.{◌≡◌, ℕ, ◌*◌, ℤ, pos, ◌+ℤ◌, ◌-ℤ◌, ◌≤ℤ◌, ◌<ℤ◌, sym, ap, ◌∙◌, arith}
-use Rattle.basics.specs.ComparisonLaws.{lt_pass}
-use Rattle.basics.specs.SignedLaws.{signed}
+use Rattle.basics.specs.{ComparisonLaws.{lt_pass}, SignedLaws.{signed}}
 use Rattle.civil_base.specs.Instants.{nanos_of}
 use Rattle.zone_spans.specs.Schedules.{Schedule, total_at}
-use Rattle.tz_zone.specs.SecondLaws.{IsSecond, one_second, second_is, total_is}
-use Rattle.tz_zone.specs.Sets.{schedule_of}
-use Rattle.tz_zone.specs.SpanLaws.{total_from_cut}
-use Rattle.tz_zone.specs.Spans.{IsCut, total_from, total_of}
-use Rattle.tz_zone.specs.declared.set.FixedTimespanSet.{FixedTimespanSet}
-use Rattle.tz_ever.specs.Ever.{ever_total}
-use Rattle.tz_ever.specs.Seam.{next_seam}
-use Rattle.tz_ever.specs.SeamLaws.{back_by, back_is}
-use Rattle.tz_ever.specs.Unrolled.{next_seam_second, seam_second}
-use Rattle.sefunjaro.specs.Stretches.{IsStretch}
-use Rattle.sefunjaro.specs.declared.stretch.Stretch.{Stretch}
+use Rattle.tz_zone.specs.{SecondLaws.{IsSecond, one_second, second_is, total_is}, Sets.{schedule_of}, SpanLaws.{total_from_cut}, Spans.{IsCut, total_from, total_of}, declared.set.FixedTimespanSet.{FixedTimespanSet}}
+use Rattle.tz_ever.specs.{Ever.{ever_total}, Seam.{next_seam}, SeamLaws.{back_by, back_is}, Unrolled.{next_seam_second, seam_second}}
+use Rattle.sefunjaro.specs.{Stretches.{IsStretch}, declared.stretch.Stretch.{Stretch}}
 
 begins_at : (s : ℤ) → IsSecond (nanos_of s) s
 begins_at s = record { low = omega (arith, signed); high = omega (arith, signed) }

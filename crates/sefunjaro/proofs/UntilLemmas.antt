@@ -1,23 +1,13 @@
 -- How long the answer of a zone of a source holds: from the last entry on, and up to the next change.
-use Rattle.std.proofs.Common.{◌≡◌, ◌<◌, ◌≤◌, ◌∙◌, ℕ, zero, suc, Bool, true, false, cond, ℤ, ◌<ℤ◌, List, [], ◌∷◌, length, map, filter, drop, int_le, int_lt, refl, sym, ap, subst, ⊎_elim, arith}
-use Rattle.std.specs.Prelude.{Option, Some, None, option_map, IfSome}
-use Rattle.std.specs.List.{slice_get}
-use Rattle.std.specs.Ordering.{int_eq}
-use Rattle.std.proofs.lemmas.Bool.{cases_lt}
-use Rattle.std.proofs.lemmas.List.{length-map}
+use Rattle.std.proofs.{Common.{◌≡◌, ◌<◌, ◌≤◌, ◌∙◌, ℕ, zero, suc, Bool, true, false, cond, ℤ, ◌<ℤ◌, List, [], ◌∷◌, length, map, filter, drop, int_le, int_lt, refl, sym, ap, subst, ⊎_elim, arith}, lemmas.Bool.{cases_lt}, lemmas.List.{length-map}}
 use Rattle.std.proofs.lemmas.Option.{same_Some, none-some}
+use Rattle.std.specs.{Prelude.{Option, Some, None, option_map, IfSome}, List.{slice_get}, Ordering.{int_eq}}
 use Rattle.basics.specs.ComparisonLaws.{eq_from_pass, le_pass, le_fail, lt_pass}
 use Rattle.civil_base.specs.Instants.{seconds_of}
 use Rattle.zone_spans.specs.Entries.{Entry}
-use Rattle.tz_zone.specs.Sets.{shift_of, shifts_of}
-use Rattle.tz_zone.specs.Spans.{shift_at, IsCut}
-use Rattle.tz_zone.specs.declared.set.FixedTimespanSet.{FixedTimespanSet}
-use Rattle.sefunjaro.specs.Answers.{begun_at, end_second, ended_at, last_second, least_second, second_of_change, up_to_end, IsBetween}
-use Rattle.sefunjaro.specs.AnswerSteps.{begin_second, IsAround, IsOfSpan, IsToldBySpan}
-use Rattle.sefunjaro.specs.Changes.{change_of, changes_of, next_after, settled_changes}
-use Rattle.sefunjaro.specs.declared.answer.Answer.{Answer}
-use Rattle.sefunjaro.specs.declared.answer.Around.{Around}
-use Rattle.sefunjaro.specs.declared.changes.Change.{Change}
+use Rattle.tz_zone.specs.{Sets.{shift_of, shifts_of}, Spans.{shift_at, IsCut}, declared.set.FixedTimespanSet.{FixedTimespanSet}}
+use Rattle.sefunjaro.specs.{Answers.{begun_at, end_second, ended_at, last_second, least_second, second_of_change, up_to_end, IsBetween}, AnswerSteps.{begin_second, IsAround, IsOfSpan, IsToldBySpan}, Changes.{change_of, changes_of, next_after, settled_changes}}
+use Rattle.sefunjaro.specs.declared.{answer.Answer.{Answer}, answer.Around.{Around}, changes.Change.{Change}}
 use Rattle.sefunjaro.proofs.ChangeLemmas.{left_after, none_next}
 
 -- ---- from the last entry on

@@ -1,6 +1,5 @@
 -- Worked rows: the last year of a zone that goes on, and of one that doesn't.
-use Rattle.std.proofs.Common.{◌≡◌, pos, refl}
-use Rattle.std.specs.Prelude.{Some, None}
+use Rattle.std.{proofs.Common.{◌≡◌, pos, refl}, specs.Prelude.{Some, None}}
 use Rattle.tz_ever.specs.declared.ever_set.EverSet.{EverSet}
 use Rattle.sefunjaro.specs.Zones.{last_year}
 

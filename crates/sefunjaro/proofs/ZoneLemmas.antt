@@ -1,18 +1,10 @@
 -- A zone that goes on shows what was compiled, where the law of such zones says so.
-use Rattle.std.proofs.Common.{◌≡◌, ◌<ℤ◌, ℕ, ℤ, pos, List, refl, sym, subst}
-use Rattle.std.specs.Prelude.{Option, Some, None}
+use Rattle.std.{proofs.Common.{◌≡◌, ◌<ℤ◌, ℕ, ℤ, pos, List, refl, sym, subst}, specs.Prelude.{Option, Some, None}}
 use Rattle.zone_spans.specs.Schedules.{total_at}
 use Rattle.zone_table.specs.declared.table.Table.{Table}
-use Rattle.tz_ever.specs.Ever.{ever_span, ever_total}
-use Rattle.tz_ever.specs.EverShown.{ever_seen}
-use Rattle.tz_ever.specs.InForce.{span_at}
-use Rattle.tz_ever.specs.Opens.{IsFoundForEver}
-use Rattle.tz_ever.specs.declared.ever_set.EverSet.{EverSet}
-use Rattle.tz_zone.specs.Compiles.{IsCompiledAs, compiled_in, spans_of}
-use Rattle.tz_zone.specs.Sets.{schedule_of}
-use Rattle.tz_zone.specs.declared.set.FixedTimespanSet.{FixedTimespanSet}
-use Rattle.sefunjaro.specs.Zones.{ever_in, set_in, GoesOnAs, IsAsCompiled, ShowsAt}
-use Rattle.sefunjaro.specs.declared.zone.OpenZone.{OpenZone}
+use Rattle.tz_ever.specs.{Ever.{ever_span, ever_total}, EverShown.{ever_seen}, InForce.{span_at}, Opens.{IsFoundForEver}, declared.ever_set.EverSet.{EverSet}}
+use Rattle.tz_zone.specs.{Compiles.{IsCompiledAs, compiled_in, spans_of}, Sets.{schedule_of}, declared.set.FixedTimespanSet.{FixedTimespanSet}}
+use Rattle.sefunjaro.specs.{Zones.{ever_in, set_in, GoesOnAs, IsAsCompiled, ShowsAt}, declared.zone.OpenZone.{OpenZone}}
 
 abbrev pub TodayLaw : Type 0
 TodayLaw = (table : Table) (name : List ℕ) (set ever : FixedTimespanSet) (t : ℤ) → IsCompiledAs set (compiled_in table name)

@@ -1,19 +1,9 @@
 -- What the span in force at an instant says, and how long it is in force.
 use Rattle.std.specs.Prelude.{◌≡◌, ◌<◌, ◌≤◌, ℕ, zero, suc, ℤ, pos, ◌≤ℤ◌, ◌<ℤ◌, true, false, int_lt, List, length, Option, Some, None}
-use Rattle.civil_base.specs.DateTimes.{instant, local_of, offset_of}
-use Rattle.civil_base.specs.Instants.{local_at, seconds_of}
-use Rattle.civil_base.specs.Layout.{day_part, time_part}
-use Rattle.civil_base.specs.Ranges.{is_in_years}
-use Rattle.civil_base.specs.declared.offset_date_time.OffsetDateTime.{OffsetDateTime}
+use Rattle.civil_base.specs.{DateTimes.{instant, local_of, offset_of}, Instants.{local_at, seconds_of}, Layout.{day_part, time_part}, Ranges.{is_in_years}, declared.offset_date_time.OffsetDateTime.{OffsetDateTime}}
 use Rattle.zone_spans.specs.declared.span.FixedTimespan.{FixedTimespan}
-use Rattle.tz_zone.specs.Sets.{shifts_of, span_in, total_of_span}
-use Rattle.tz_zone.specs.Spans.{Shift, shift_at, IsCut}
-use Rattle.tz_zone.specs.declared.set.FixedTimespanSet.{FixedTimespanSet}
-use Rattle.sefunjaro.specs.Answers.{end_second, least_second, up_to_end}
-use Rattle.sefunjaro.specs.Clocks.{clock_at}
-use Rattle.sefunjaro.specs.Rooms.{filled}
-use Rattle.sefunjaro.specs.declared.answer.Answer.{Answer}
-use Rattle.sefunjaro.specs.declared.answer.Around.{Around}
+use Rattle.tz_zone.specs.{Sets.{shifts_of, span_in, total_of_span}, Spans.{Shift, shift_at, IsCut}, declared.set.FixedTimespanSet.{FixedTimespanSet}}
+use Rattle.sefunjaro.specs.{Answers.{end_second, least_second, up_to_end}, Clocks.{clock_at}, Rooms.{filled}, declared.answer.Answer.{Answer}, declared.answer.Around.{Around}}
 
 -- the second from which a span is in force, by its number: the first from the least of all on
 abbrev pub begin_second : ℤ → List Shift → ℕ → ℤ

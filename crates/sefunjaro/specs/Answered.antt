@@ -1,20 +1,9 @@
 -- What zones of every kind answer, by the total in force at each instant.
-use Rattle.std.specs.Prelude.{◌≡◌, ℕ, ℤ, Bool, true, All, AllPairs, List, length, map, Option, option_map, IfSome, is_some}
-use Rattle.std.specs.List.{slice_get}
-use Rattle.civil_base.specs.Instants.{local_at}
-use Rattle.civil_base.specs.Ranges.{is_in_years}
-use Rattle.civil_base.specs.declared.offset_date_time.OffsetDateTime.{OffsetDateTime}
+use Rattle.std.specs.{Prelude.{◌≡◌, ℕ, ℤ, Bool, true, All, AllPairs, List, length, map, Option, option_map, IfSome, is_some}, List.{slice_get}}
+use Rattle.civil_base.specs.{Instants.{local_at}, Ranges.{is_in_years}, declared.offset_date_time.OffsetDateTime.{OffsetDateTime}}
 use Rattle.tz_zone.specs.InForce.{all_in_force, in_force, shown_of}
-use Rattle.zone_alarm.specs.Rings.{ends_in_years, rings}
-use Rattle.zone_alarm.specs.RingsOnce.{AreApart, RingsOnce}
-use Rattle.zone_alarm.specs.Shown.{ring_shown}
-use Rattle.zone_alarm.specs.declared.ring.Ring.{Ring}
-use Rattle.sefunjaro.specs.Asked.{reading_of, IsNamed}
-use Rattle.sefunjaro.specs.Gaps.{IsSkippedBy}
-use Rattle.sefunjaro.specs.Rooms.{filled}
-use Rattle.sefunjaro.specs.declared.zone.InForce.{InForce}
-use Rattle.sefunjaro.specs.declared.zone.Reading.{Reading}
-use Rattle.sefunjaro.specs.declared.gap.Gap.{Gap}
+use Rattle.zone_alarm.specs.{Rings.{ends_in_years, rings}, RingsOnce.{AreApart, RingsOnce}, Shown.{ring_shown}, declared.ring.Ring.{Ring}}
+use Rattle.sefunjaro.specs.{Asked.{reading_of, IsNamed}, Gaps.{IsSkippedBy}, Rooms.{filled}, declared.zone.InForce.{InForce}, declared.zone.Reading.{Reading}, declared.gap.Gap.{Gap}}
 
 -- what is in force at an instant, where each instant has a total, and gives abbreviations
 pub record IsInForce (total : ℤ → ℤ) (gives : ℤ → List ℕ → Bool → Type 0) (t : ℤ) (found : InForce) (old new : List ℕ) : Type 0 where

@@ -1,20 +1,11 @@
 -- All that a zone says of an instant, and how long it holds.
 use Rattle.std.specs.Prelude.{◌≡◌, ◌<◌, ◌≤◌, ℕ, ℤ, pos, negsuc, unsigned_abs, ◌+ℤ◌, ◌≤ℤ◌, ◌<ℤ◌, int_le, int_lt, if◌then◌else◌, Bool, true, false, List, [], ◌∷◌, filter, length, Option, Some, None}
-use Rattle.civil_base.specs.Instants.{local_at, seconds_of}
-use Rattle.civil_base.specs.Layout.{day_part, time_part}
-use Rattle.civil_base.specs.Ranges.{is_in_years}
+use Rattle.civil_base.specs.{Instants.{local_at, seconds_of}, Layout.{day_part, time_part}, Ranges.{is_in_years}}
 use Rattle.zone_spans.specs.Entries.{Entry}
 use Rattle.tz_zone.specs.declared.set.FixedTimespanSet.{FixedTimespanSet}
 use Rattle.tz_tzif.specs.InForce.{kind_in}
 use Rattle.zone_tzif_core.specs.Zones.{KindValue}
-use Rattle.sefunjaro.specs.Changes.{next_after, saving_at}
-use Rattle.sefunjaro.specs.Clocks.{clock_at}
-use Rattle.sefunjaro.specs.Files.{file_value, SaysOf}
-use Rattle.sefunjaro.specs.Rooms.{filled}
-use Rattle.sefunjaro.specs.Zones.{spans_in}
-use Rattle.sefunjaro.specs.declared.answer.Answer.{Answer}
-use Rattle.sefunjaro.specs.declared.changes.Change.{Change}
-use Rattle.sefunjaro.specs.declared.zone.AnyZone.{AnyZone}
+use Rattle.sefunjaro.specs.{Changes.{next_after, saving_at}, Clocks.{clock_at}, Files.{file_value, SaysOf}, Rooms.{filled}, Zones.{spans_in}, declared.answer.Answer.{Answer}, declared.changes.Change.{Change}, declared.zone.AnyZone.{AnyZone}}
 use Rattle.sefunjaro.specs.declared.zone.AnyZone.TheVariants.{Source, File}
 
 -- The answer is that of an instant whose local date lies in the years -9999 to 9999. Its second is one of those that are told, and

@@ -1,12 +1,7 @@
 -- What is seen of a zone of any kind.
 use Rattle.std.specs.Prelude.{ℕ, ℤ, Bool, List}
 use Rattle.tz_tzif.specs.InForce.{told_total_at}
-use Rattle.sefunjaro.specs.Files.{file_value, given_at, SaysOf}
-use Rattle.sefunjaro.specs.Zones.{given_in, total_in}
-use Rattle.sefunjaro.specs.declared.zone.AnyZone.{AnyZone}
-use Rattle.sefunjaro.specs.declared.zone.AnyZone.TheVariants.{Source, File}
-use Rattle.sefunjaro.specs.declared.file.FileZone.{FileZone}
-use Rattle.sefunjaro.specs.declared.zone.OpenZone.{OpenZone}
+use Rattle.sefunjaro.specs.{Files.{file_value, given_at, SaysOf}, Zones.{given_in, total_in}, declared.zone.AnyZone.{AnyZone}, declared.zone.AnyZone.TheVariants.{Source, File}, declared.file.FileZone.{FileZone}, declared.zone.OpenZone.{OpenZone}}
 
 -- This holds of the seconds east of UTC that are in force at each instant, in nanoseconds from 1970-01-01 00:00:00 UTC, and of the
 -- abbreviations that are given then. A zone of a file has them by its value and what its footer says.

@@ -2,15 +2,9 @@
 use Rattle.std.specs.Prelude.{◌≡◌, ◌<◌, ◌≤◌, ℕ, List, None, Ok, Err, length}
 use Rattle.zone_plain.specs.Plain.{plain_of}
 use Rattle.zone_plain_base.specs.LineFaults.{at, bad_line, too_long}
-use Rattle.zone_source.specs.Releases.{release_of}
-use Rattle.zone_source.specs.Faults.{source_fault}
-use Rattle.zone_source.specs.Zones.{values_of}
-use Rattle.zone_source.specs.declared.error.SourceError.{SourceError}
+use Rattle.zone_source.specs.{Releases.{release_of}, Faults.{source_fault}, Zones.{values_of}, declared.error.SourceError.{SourceError}}
 use Rattle.zone_table.specs.Tables.{IsTableOf}
-use Rattle.sefunjaro.specs.Faults.{IsFirstFault}
-use Rattle.sefunjaro.specs.Sources.{table_in, release_in}
-use Rattle.sefunjaro.specs.declared.any_source.AnySourceFault.{AnySourceFault}
-use Rattle.sefunjaro.specs.declared.any_source.AnySourceFault.TheVariants.{TooLong, Line, PlainTooLong, Plain, NoMemory}
+use Rattle.sefunjaro.specs.{Faults.{IsFirstFault}, Sources.{table_in, release_in}, declared.any_source.AnySourceFault.{AnySourceFault}, declared.any_source.AnySourceFault.TheVariants.{TooLong, Line, PlainTooLong, Plain, NoMemory}}
 use Rattle.sefunjaro.specs.declared.source.OpenSource.{OpenSource}
 
 -- the source is that of a text in plain form, which has no fault

@@ -1,9 +1,7 @@
 -- What is seen of a zone's answers.
 use Rattle.std.specs.Prelude.{◌≡◌, ℕ, ℤ, Bool, List, length}
 use Rattle.civil_base.specs.Instants.{seconds_of}
-use Rattle.sefunjaro.specs.Rooms.{filled}
-use Rattle.sefunjaro.specs.declared.zone.InForce.{InForce}
-use Rattle.sefunjaro.specs.declared.zone.Reading.{Reading}
+use Rattle.sefunjaro.specs.{Rooms.{filled}, declared.zone.InForce.{InForce}, declared.zone.Reading.{Reading}}
 
 -- an abbreviation that is given with that kind of time stands in the room, as far as it fits, and its length is told
 pub record IsNamed (given : List ℕ → Bool → Type 0) (found : InForce) (old new : List ℕ) : Type 0 where

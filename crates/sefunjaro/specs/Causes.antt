@@ -5,19 +5,16 @@ use Rattle.zone_alarm.specs.declared.ring.AlarmFault.TheVariants as alarm
 use Rattle.zone_list.specs.Ranges.{all_have_dates}
 use Rattle.zone_list.specs.declared.listing.ListFault.TheVariants as listed
 use Rattle.zone_outside.specs.Limit.{text_limit}
-use Rattle.zone_spans.specs.Entries.{Entry}
-use Rattle.zone_spans.specs.declared.fault.SpanFault.{SpanFault}
+use Rattle.zone_spans.specs.{Entries.{Entry}, declared.fault.SpanFault.{SpanFault}}
 use Rattle.zone_spans.specs.declared.span.FixedTimespanSet as spans
 use Rattle.zone_table.specs.declared.table.Table.{Table}
 use Rattle.tz_zone.specs.Compiles.{IsZoneFault}
+use Rattle.tz_zone.specs.declared.compile.ZoneFault.TheVariants as zone
 use Rattle.tz_lookup.specs.Databases.{names_of, first_refused, zone_refusal, IsDatabaseFault}
 use Rattle.tz_lookup.specs.declared.database.DatabaseFault.TheVariants as database
-use Rattle.tz_zone.specs.declared.compile.ZoneFault.TheVariants as zone
-use Rattle.zone_tree.specs.Told.{IsFirst}
-use Rattle.zone_tree.specs.Trees.{Refused}
+use Rattle.zone_tree.specs.{Told.{IsFirst}, Trees.{Refused}}
 use Rattle.zone_tree.specs.declared.refusal.TreeFault.TheVariants as tree
-use Rattle.sefunjaro.specs.Faults.{IsFirstFault}
-use Rattle.sefunjaro.specs.declared.error.Error.{Error}
+use Rattle.sefunjaro.specs.{Faults.{IsFirstFault}, declared.error.Error.{Error}}
 use Rattle.sefunjaro.specs.declared.error.Error.TheVariants as error
 
 -- why a source has no table: it is too long; or it isn't, and a line of it is refused, or memory ran out

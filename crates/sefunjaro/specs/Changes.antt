@@ -1,10 +1,6 @@
 -- The changes of a zone, and the saving in force.
-use Rattle.std.specs.Prelude.{ℤ, Bool, ◌&&◌, not, List, [], ◌∷◌, length, map, filter, Option, int_le, int_lt, if◌then◌else◌}
-use Rattle.std.specs.List.{slice_get}
-use Rattle.std.specs.Ordering.{int_eq}
-use Rattle.zone_spans.specs.Collapse.{is_same_span}
-use Rattle.zone_spans.specs.Entries.{Entry, total}
-use Rattle.zone_spans.specs.declared.span.FixedTimespan.{FixedTimespan}
+use Rattle.std.specs.{Prelude.{ℤ, Bool, ◌&&◌, not, List, [], ◌∷◌, length, map, filter, Option, int_le, int_lt, if◌then◌else◌}, List.{slice_get}, Ordering.{int_eq}}
+use Rattle.zone_spans.specs.{Collapse.{is_same_span}, Entries.{Entry, total}, declared.span.FixedTimespan.{FixedTimespan}}
 use Rattle.tz_zone.specs.declared.set.FixedTimespanSet.{FixedTimespanSet}
 use Rattle.sefunjaro.specs.declared.changes.Change.{Change}
 

@@ -1,9 +1,7 @@
 -- Local times by their parts.
 use Rattle.std.specs.Prelude.{ℕ, ℤ, pos, ◌+ℤ◌, ◌*ℤ◌}
-use Rattle.basics.specs.Days.{day, IsDate}
-use Rattle.basics.specs.Dates.{year_of, month_of, day_of}
-use Rattle.civil_base.specs.Clock.{nanos_per_day, hour_of, minute_of, second_of, nanosecond_of, time_at, IsClockTime}
-use Rattle.civil_base.specs.Ranges.{IsYear}
+use Rattle.basics.specs.{Days.{day, IsDate}, Dates.{year_of, month_of, day_of}}
+use Rattle.civil_base.specs.{Clock.{nanos_per_day, hour_of, minute_of, second_of, nanosecond_of, time_at, IsClockTime}, Ranges.{IsYear}}
 use Rattle.sefunjaro.specs.declared.clock.Clock.{Clock}
 
 -- what is shown on a day at a time of day

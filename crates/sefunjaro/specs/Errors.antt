@@ -1,13 +1,10 @@
 -- What the fault of a call becomes. Want of memory is one variant, whichever call it comes of.
-use Rattle.sefunjaro.specs.declared.any_source.AnySourceFault.{AnySourceFault}
-use Rattle.sefunjaro.specs.declared.any_source.AnySourceFault.TheVariants as any_source
-use Rattle.sefunjaro.specs.declared.error.Error.{Error}
-use Rattle.sefunjaro.specs.declared.error.Error.TheVariants.{TooLong, Source, Line, PlainTooLong, Plain, Zone, Database, List, Alarm, Tail, EverTail, Tzif, Tree, File, FileZone, Posix, NoMemory}
-use Rattle.sefunjaro.specs.declared.file.FileFault.{FileFault}
-use Rattle.sefunjaro.specs.declared.file.FileFault.TheVariants as opened_file
-use Rattle.sefunjaro.specs.declared.file.PosixFault.{PosixFault}
-use Rattle.sefunjaro.specs.declared.file.PosixFault.TheVariants as posix
+use Rattle.sefunjaro.specs.declared.{any_source.AnySourceFault.{AnySourceFault}, error.Error.{Error}}
+use Rattle.sefunjaro.specs.declared.{error.Error.TheVariants.{TooLong, Source, Line, PlainTooLong, Plain, Zone, Database, List, Alarm, Tail, EverTail, Tzif, Tree, File, FileZone, Posix, NoMemory}, file.FileFault.{FileFault}, file.PosixFault.{PosixFault}}
 use Rattle.sefunjaro.specs.declared.source.OpenFault.{OpenFault}
+use Rattle.sefunjaro.specs.declared.any_source.AnySourceFault.TheVariants as any_source
+use Rattle.sefunjaro.specs.declared.file.FileFault.TheVariants as opened_file
+use Rattle.sefunjaro.specs.declared.file.PosixFault.TheVariants as posix
 use Rattle.sefunjaro.specs.declared.source.OpenFault.TheVariants as opened
 use Rattle.tz_lookup.specs.declared.database.DatabaseFault.{DatabaseFault}
 use Rattle.tz_lookup.specs.declared.database.DatabaseFault.TheVariants as database
@@ -23,16 +20,15 @@ use Rattle.zone_source.specs.declared.error.SourceError.{SourceError}
 use Rattle.zone_source.specs.declared.error.SourceError.TheVariants as source
 use Rattle.zone_tail.specs.declared.outcome.TailFault.{TailFault}
 use Rattle.zone_tail.specs.declared.outcome.TailFault.TheVariants as tail
-use Rattle.zone_tzif.specs.declared.outcome.EverTailFault.{EverTailFault}
+use Rattle.zone_tzif.specs.declared.{outcome.EverTailFault.{EverTailFault}, ever.EverFileFault.{EverFileFault}}
 use Rattle.zone_tzif.specs.declared.outcome.EverTailFault.TheVariants as ever_tail
+use Rattle.zone_tzif.specs.declared.ever.EverFileFault.TheVariants as ever_file
+use Rattle.zone_tzif.specs.declared.file.FileFault as made
+use Rattle.zone_tzif.specs.declared.file.FileFault.TheVariants as made_file
 use Rattle.zone_tree.specs.declared.refusal.TreeFault.{TreeFault}
 use Rattle.zone_tree.specs.declared.refusal.TreeFault.TheVariants as tree
 use Rattle.zone_tzif_core.specs.declared.values.ReadFault.{ReadFault}
 use Rattle.zone_tzif_core.specs.declared.values.ReadFault.TheVariants as read
-use Rattle.zone_tzif.specs.declared.ever.EverFileFault.{EverFileFault}
-use Rattle.zone_tzif.specs.declared.ever.EverFileFault.TheVariants as ever_file
-use Rattle.zone_tzif.specs.declared.file.FileFault as made
-use Rattle.zone_tzif.specs.declared.file.FileFault.TheVariants as made_file
 
 abbrev pub of_source : SourceError → Error
 of_source source.NoMemory = NoMemory

@@ -1,10 +1,7 @@
 -- Why a source isn't opened.
 use Rattle.std.specs.Prelude.{◌≡◌, ◌<◌, ◌≤◌, ℕ, List, IsSome, length}
-use Rattle.zone_source.specs.Faults.{source_fault}
-use Rattle.zone_source.specs.Told.{told_by_source}
-use Rattle.zone_source.specs.declared.error.SourceError.{SourceError}
-use Rattle.sefunjaro.specs.declared.source.OpenFault.{OpenFault}
-use Rattle.sefunjaro.specs.declared.source.OpenFault.TheVariants.{TooLong, Source, NoMemory}
+use Rattle.zone_source.specs.{Faults.{source_fault}, Told.{told_by_source}, declared.error.SourceError.{SourceError}}
+use Rattle.sefunjaro.specs.declared.source.OpenFault.{OpenFault, TheVariants.{TooLong, Source, NoMemory}}
 
 -- this is the first fault of a source, and not want of memory
 pub record IsFirstFault (text : List ℕ) (error : SourceError) : Type 0 where

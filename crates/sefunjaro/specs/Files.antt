@@ -1,18 +1,8 @@
 -- What is seen of a zone of a compiled file or of a POSIX string.
 use Rattle.std.specs.Prelude.{◌≡◌, ℕ, ℤ, Bool, List, [], Option}
-use Rattle.tz_tzif.specs.FooterForce.{FooterZone}
-use Rattle.tz_tzif.specs.Ranges.{IsFooterOf}
-use Rattle.tz_tzif.specs.Values.{FooterValue}
-use Rattle.tz_tzif.specs.Faults.{IsAcceptedFile, IsNoFooter, SaysInFooter}
-use Rattle.tz_tzif.specs.InForce.{kind_at}
-use Rattle.tz_tzif.specs.Owners.{value_in}
-use Rattle.tz_tzif.specs.Zones.{IsOfKind}
-use Rattle.zone_tzif_core.specs.Denotes.{Says}
-use Rattle.zone_tzif_core.specs.Zones.{ZoneValue}
-use Rattle.sefunjaro.specs.Posix.{standard_kind}
-use Rattle.sefunjaro.specs.declared.file.FileFault.{FileFault}
-use Rattle.sefunjaro.specs.declared.file.FileFault.TheVariants.{Refused, Footer, NoMemory}
-use Rattle.sefunjaro.specs.declared.file.FileZone.{FileZone}
+use Rattle.tz_tzif.specs.{FooterForce.{FooterZone}, Ranges.{IsFooterOf}, Values.{FooterValue}, Faults.{IsAcceptedFile, IsNoFooter, SaysInFooter}, InForce.{kind_at}, Owners.{value_in}, Zones.{IsOfKind}}
+use Rattle.zone_tzif_core.specs.{Denotes.{Says}, Zones.{ZoneValue}}
+use Rattle.sefunjaro.specs.{Posix.{standard_kind}, declared.file.FileFault.{FileFault}, declared.file.FileFault.TheVariants.{Refused, Footer, NoMemory}, declared.file.FileZone.{FileZone}}
 
 -- its changes and the text of its footer
 abbrev pub file_value : FileZone → ZoneValue

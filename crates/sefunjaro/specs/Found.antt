@@ -2,17 +2,8 @@
 use Rattle.std.specs.Prelude.{◌≡◌, ◌<◌, ◌≤◌, ℕ, ℤ, All, List, [], ◌∷◌, length, map, min, slice_index_or, Result, Ok, Err}
 use Rattle.civil_base.specs.Instants.{instant_at, seconds_of}
 use Rattle.tz_zone.specs.InForce.{all_in_force}
-use Rattle.sefunjaro.specs.Asked.{reading_of}
-use Rattle.sefunjaro.specs.Clocks.{clock_shown, IsClock}
-use Rattle.sefunjaro.specs.Gaps.{IsSkippedBy}
-use Rattle.sefunjaro.specs.declared.clock.Clock.{Clock}
-use Rattle.sefunjaro.specs.declared.found.FoldRule.{FoldRule}
-use Rattle.sefunjaro.specs.declared.found.FoldRule.TheVariants.{First, Second}
-use Rattle.sefunjaro.specs.declared.found.Found.{Found}
-use Rattle.sefunjaro.specs.declared.found.GapRule.{GapRule}
-use Rattle.sefunjaro.specs.declared.found.GapRule.TheVariants.{Before, After, None}
-use Rattle.sefunjaro.specs.declared.gap.Gap.{Gap}
-use Rattle.sefunjaro.specs.declared.zone.Reading.{Reading}
+use Rattle.sefunjaro.specs.{Asked.{reading_of}, Clocks.{clock_shown, IsClock}, Gaps.{IsSkippedBy}, declared.clock.Clock.{Clock}, declared.found.FoldRule.{FoldRule}, declared.found.FoldRule.TheVariants.{First, Second}, declared.found.Found.{Found}}
+use Rattle.sefunjaro.specs.declared.{found.GapRule.{GapRule}, found.GapRule.TheVariants.{Before, After, None}, gap.Gap.{Gap}, zone.Reading.{Reading}}
 
 -- of the readings of a local time, the first of which is r, the one that the rule takes: the second only where there is one
 abbrev pub by_fold : FoldRule → Reading → List Reading → Reading

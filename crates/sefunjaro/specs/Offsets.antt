@@ -1,7 +1,6 @@
 -- The offsets of many seconds.
 use Rattle.std.specs.Prelude.{All, ℤ, List, map}
-use Rattle.civil_base.specs.Instants.{nanos_of}
-use Rattle.civil_base.specs.Ranges.{IsInYears}
+use Rattle.civil_base.specs.{Instants.{nanos_of}, Ranges.{IsInYears}}
 
 -- the seconds east of UTC at each of some seconds
 abbrev pub offsets_of : (ℤ → ℤ) → List ℤ → List ℤ

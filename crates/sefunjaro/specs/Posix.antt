@@ -1,12 +1,9 @@
 -- POSIX strings as zones.
 use Rattle.std.specs.Prelude.{◌≡◌, ℕ, List, false, true}
-use Rattle.tz_tzif.specs.Ranges.{IsFooterOf}
-use Rattle.tz_tzif.specs.Standing.{kind_of}
-use Rattle.tz_tzif.specs.Values.{FooterValue}
+use Rattle.tz_tzif.specs.{Ranges.{IsFooterOf}, Standing.{kind_of}, Values.{FooterValue}}
 use Rattle.tz_posix.specs.Seconds.{east_of}
 use Rattle.zone_tzif_core.specs.Zones.{KindValue, is_small}
-use Rattle.sefunjaro.specs.declared.file.PosixFault.{PosixFault}
-use Rattle.sefunjaro.specs.declared.file.PosixFault.TheVariants.{Refused, NoMemory}
+use Rattle.sefunjaro.specs.declared.file.PosixFault.{PosixFault, TheVariants.{Refused, NoMemory}}
 
 -- standard time, as a string writes it
 abbrev pub standard_kind : FooterValue → KindValue

@@ -1,12 +1,6 @@
 -- Strings in whose names there is nothing that POSIX has no place for, and those in which nothing is.
-use Rattle.std.specs.Prelude.{ℕ, Bool, false, true, ◌&&◌, ◌||◌, ◌==◌, nat_le, List, length, Option, Some, None}
-use Rattle.std.specs.Char.{is_ascii_alphabetic, is_ascii_digit}
-use Rattle.std.specs.List.{list_all}
-use Rattle.tz_posix.specs.Marks.{plus_sign, minus_sign}
-use Rattle.tz_posix.specs.Spells.{Spells}
-use Rattle.tz_posix.specs.Values.{DstPart, TzValue, short, expanded}
-use Rattle.tz_posix.specs.declared.time.Time.{Time}
-use Rattle.tz_posix.specs.declared.values.Rule.{Rule}
+use Rattle.std.specs.{Prelude.{ℕ, Bool, false, true, ◌&&◌, ◌||◌, ◌==◌, nat_le, List, length, Option, Some, None}, Char.{is_ascii_alphabetic, is_ascii_digit}, List.{list_all}}
+use Rattle.tz_posix.specs.{Marks.{plus_sign, minus_sign}, Spells.{Spells}, Values.{DstPart, TzValue, short, expanded}, declared.time.Time.{Time}, declared.values.Rule.{Rule}}
 
 -- an ASCII letter or digit, `+` or `-`
 abbrev pub is_posix_byte : ℕ → Bool

@@ -1,14 +1,10 @@
 -- What replies see of a zone that is kept open.
 use Rattle.std.specs.Prelude.{ℤ, List, map, filter, int_le, Option}
 use Rattle.zone_replies.specs.Views.{InForce, ZoneView}
-use Rattle.zone_spans.specs.Entries.{total}
-use Rattle.zone_spans.specs.Schedules.{instants}
-use Rattle.zone_spans.specs.declared.span.FixedTimespan.{FixedTimespan}
+use Rattle.zone_spans.specs.{Entries.{total}, Schedules.{instants}, declared.span.FixedTimespan.{FixedTimespan}}
 use Rattle.tz_ever.specs.declared.ever_set.EverSet.{EverSet}
 use Rattle.tz_zone.specs.declared.set.FixedTimespanSet.{FixedTimespanSet}
-use Rattle.sefunjaro.specs.Changes.{last_span, window}
-use Rattle.sefunjaro.specs.Zones.{last_year, spans_with, total_with}
-use Rattle.sefunjaro.specs.declared.changes.Change.{Change}
+use Rattle.sefunjaro.specs.{Changes.{last_span, window}, Zones.{last_year, spans_with, total_with}, declared.changes.Change.{Change}}
 
 abbrev pub force_of : FixedTimespan → InForce
 force_of span = record { offset = total span; saving = span.dst_offset; name = span.name }

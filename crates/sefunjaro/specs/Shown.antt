@@ -1,12 +1,7 @@
 -- What the clocks of a zone show at many seconds.
-use Rattle.std.specs.Prelude.{◌≡◌, ℕ, ◌^◌, ℤ, Bool, ◌&&◌, not, IsTrue, All, List, [], ◌∷◌, ◌++◌, length, map, nat_le, Option, Some, None, Result, Ok, Err, if◌then◌else◌}
-use Rattle.std.specs.List.{position}
-use Rattle.civil_base.specs.Instants.{local_at, nanos_of}
-use Rattle.civil_base.specs.Layout.{day_part, time_part, zoned_text}
-use Rattle.civil_base.specs.Ranges.{is_in_years}
-use Rattle.sefunjaro.specs.Clocks.{clock_at}
-use Rattle.sefunjaro.specs.Rooms.{filled}
-use Rattle.sefunjaro.specs.declared.clock.Clock.{Clock}
+use Rattle.std.specs.{Prelude.{◌≡◌, ℕ, ◌^◌, ℤ, Bool, ◌&&◌, not, IsTrue, All, List, [], ◌∷◌, ◌++◌, length, map, nat_le, Option, Some, None, Result, Ok, Err, if◌then◌else◌}, List.{position}}
+use Rattle.civil_base.specs.{Instants.{local_at, nanos_of}, Layout.{day_part, time_part, zoned_text}, Ranges.{is_in_years}}
+use Rattle.sefunjaro.specs.{Clocks.{clock_at}, Rooms.{filled}, declared.clock.Clock.{Clock}}
 
 -- a second lies in the years -9999 to 9999 in UTC, and so does its date by the clocks of a zone
 abbrev pub is_shown : (ℤ → ℤ) → ℤ → Bool

@@ -1,8 +1,7 @@
 -- What is seen of a source that is kept open.
 use Rattle.std.specs.Prelude.{ℕ, List, Option}
 use Rattle.zone_table.specs.declared.table.Table.{Table}
-use Rattle.sefunjaro.specs.Releases.{if_some}
-use Rattle.sefunjaro.specs.declared.source.OpenSource.{OpenSource}
+use Rattle.sefunjaro.specs.{Releases.{if_some}, declared.source.OpenSource.{OpenSource}}
 
 -- the table of its lines
 abbrev pub table_in : OpenSource → Table

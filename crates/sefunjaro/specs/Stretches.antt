@@ -1,11 +1,7 @@
 -- The total offset at a second, and how long it is in force.
 use Rattle.std.specs.Prelude.{◌≡◌, ℤ, ◌≤ℤ◌, ◌<ℤ◌}
-use Rattle.civil_base.specs.Instants.{nanos_of}
-use Rattle.civil_base.specs.Ranges.{IsOffset}
-use Rattle.tz_ever.specs.Ever.{ever_total}
-use Rattle.tz_ever.specs.EverShown.{ever_seen}
-use Rattle.tz_ever.specs.Seam.{brought_back}
-use Rattle.tz_ever.specs.declared.ever_set.EverSet.{EverSet}
+use Rattle.civil_base.specs.{Instants.{nanos_of}, Ranges.{IsOffset}}
+use Rattle.tz_ever.specs.{Ever.{ever_total}, EverShown.{ever_seen}, Seam.{brought_back}, declared.ever_set.EverSet.{EverSet}}
 use Rattle.sefunjaro.specs.declared.stretch.Stretch.{Stretch}
 
 -- its total is that of all its seconds, of which there may be none, where each instant has a total

@@ -1,21 +1,10 @@
 -- What is seen of a zone that is kept open.
 use Rattle.std.specs.Prelude.{◌≡◌, ◌⊎◌, ◌<ℤ◌, ℕ, ℤ, pos, Bool, List, Option, Some, None, Result}
-use Rattle.zone_spans.specs.Schedules.{total_at}
-use Rattle.zone_spans.specs.Years.{latest_year}
-use Rattle.zone_spans.specs.declared.fault.SpanFault.{SpanFault}
-use Rattle.zone_spans.specs.declared.span.FixedTimespan.{FixedTimespan}
+use Rattle.zone_spans.specs.{Schedules.{total_at}, Years.{latest_year}, declared.fault.SpanFault.{SpanFault}, declared.span.FixedTimespan.{FixedTimespan}}
 use Rattle.zone_spans.specs.declared.span.FixedTimespanSet as spans
 use Rattle.zone_table.specs.declared.table.Table.{Table}
-use Rattle.tz_ever.specs.Ever.{GivesEver, ever_span, ever_total}
-use Rattle.tz_ever.specs.EverShown.{ever_seen}
-use Rattle.tz_ever.specs.InForce.{span_at}
-use Rattle.tz_ever.specs.Opens.{DoesNotGoOn, IsFoundForEver, IsTooFarLater}
-use Rattle.tz_ever.specs.Unrolled.{unrolled}
-use Rattle.tz_ever.specs.declared.ever_set.EverSet.{EverSet}
-use Rattle.tz_zone.specs.Compiles.{IsCompiledAs, spans_of}
-use Rattle.tz_zone.specs.InForce.{GivesAt}
-use Rattle.tz_zone.specs.Sets.{schedule_of}
-use Rattle.tz_zone.specs.declared.set.FixedTimespanSet.{FixedTimespanSet}
+use Rattle.tz_ever.specs.{Ever.{GivesEver, ever_span, ever_total}, EverShown.{ever_seen}, InForce.{span_at}, Opens.{DoesNotGoOn, IsFoundForEver, IsTooFarLater}, Unrolled.{unrolled}, declared.ever_set.EverSet.{EverSet}}
+use Rattle.tz_zone.specs.{Compiles.{IsCompiledAs, spans_of}, InForce.{GivesAt}, Sets.{schedule_of}, declared.set.FixedTimespanSet.{FixedTimespanSet}}
 use Rattle.tz_lookup.specs.CompactShown.{seen}
 use Rattle.sefunjaro.specs.declared.zone.OpenZone.{OpenZone}
 

@@ -1,13 +1,9 @@
 //! All that a zone says of an instant, and how long it holds.
 ghost use Rattle.std.specs.Prelude.{◌≡◌, ◌<◌, ◌≤◌, ◌+ℤ◌, ◌≤ℤ◌, ◌<ℤ◌, ℤ, false, length, pos, unsigned_abs, IfSome};
-ghost use Rattle.civil_base.specs.DateTimes.{instant};
-ghost use Rattle.civil_base.specs.Instants.{seconds_of};
-ghost use Rattle.tz_tzif.specs.InForce.{kind_in, told_total_at};
-ghost use Rattle.tz_tzif.specs.Zones.{value_of, says_of};
+ghost use Rattle.civil_base.specs.{DateTimes.{instant}, Instants.{seconds_of}};
+ghost use Rattle.tz_tzif.specs.{InForce.{kind_in, told_total_at}, Zones.{value_of, says_of}};
 ghost use Rattle.tz_zone.specs.Sets.{schedule_of, span_in, IsAccepted};
-ghost use Rattle.sefunjaro.specs.Answers.{end_second, up_to_end, IsAnswered, IsHeldOn};
-ghost use Rattle.sefunjaro.specs.AnswerSteps.{IsAround, IsMadeOf, IsToldBySpan};
-ghost use Rattle.sefunjaro.specs.Files.{given_at};
+ghost use Rattle.sefunjaro.specs.{Answers.{end_second, up_to_end, IsAnswered, IsHeldOn}, AnswerSteps.{IsAround, IsMadeOf, IsToldBySpan}, Files.{given_at}};
 
 use crate::changes::span_in_force_at;
 use crate::clock::Clock;

@@ -30,8 +30,7 @@ pub enum AnySourceFault {
 
 impl OpenSource {
     ghost use Rattle.std.specs.Prelude.{◌≡◌, IfOk, IfErr};
-    ghost use Rattle.sefunjaro.specs.AnySources.{IsAnyFault, IsAnySource};
-    ghost use Rattle.sefunjaro.specs.Sources.{release_in};
+    ghost use Rattle.sefunjaro.specs.{AnySources.{IsAnyFault, IsAnySource}, Sources.{release_in}};
     ghost use Rattle.zone_source.specs.Releases.{release_of};
 
     /// Opens a source in any form that `zic` reads: its plain form, as [`plain`](zone_plain::plain) writes it, is opened as

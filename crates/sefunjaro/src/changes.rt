@@ -1,12 +1,8 @@
 //! The changes of a zone, and the saving in force.
-ghost use Rattle.std.specs.Prelude.{◌≡◌, ◌+◌, ◌<◌, int_lt, length, map, Some};
-ghost use Rattle.std.specs.List.{slice_get};
-ghost use Rattle.tz_zone.specs.Sets.{schedule_of, shifts_of, IsAccepted};
-ghost use Rattle.tz_zone.specs.Spans.{shift_at, IsCut};
+ghost use Rattle.std.specs.{Prelude.{◌≡◌, ◌+◌, ◌<◌, int_lt, length, map, Some}, List.{slice_get}};
+ghost use Rattle.tz_zone.specs.{Sets.{schedule_of, shifts_of, IsAccepted}, Spans.{shift_at, IsCut}};
 ghost use Rattle.zone_spans.specs.Collapse.{is_same_span};
-ghost use Rattle.sefunjaro.specs.Changes.{change_of, next_after, saving_at, span_before, window};
-ghost use Rattle.sefunjaro.specs.ChangeSteps.{AreParted, HasPut, IsChangeAt};
-ghost use Rattle.sefunjaro.specs.Rooms.{filled};
+ghost use Rattle.sefunjaro.specs.{Changes.{change_of, next_after, saving_at, span_before, window}, ChangeSteps.{AreParted, HasPut, IsChangeAt}, Rooms.{filled}};
 
 use crate::room::put;
 use std::marker::Brand;

@@ -71,8 +71,7 @@ impl Clock {
 impl Clock {
     ghost use Rattle.std.specs.Prelude.{◌≡◌, IfNone, IfSome, IsTrue};
     ghost use Rattle.basics.specs.Days.{day as day_at, IsDate};
-    ghost use Rattle.civil_base.specs.Clock.{time_at, IsClockTime};
-    ghost use Rattle.civil_base.specs.Ranges.{IsYear};
+    ghost use Rattle.civil_base.specs.{Clock.{time_at, IsClockTime}, Ranges.{IsYear}};
 
     /// The date, if there is one.
     fn date(self) -> Option<Date>

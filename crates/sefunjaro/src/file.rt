@@ -1,11 +1,7 @@
 //! Zones of compiled files, and of POSIX strings.
 ghost use Rattle.std.specs.Prelude.{◌≡◌, ◌<◌, MatchResult, IfErr, IfOk, false, true};
-ghost use Rattle.zone_tzif_core.specs.Shown.{kind_shown};
-ghost use Rattle.zone_tzif_core.specs.ZoneFiles.{zone_seen};
-ghost use Rattle.zone_tzif_core.specs.Zones.{is_small};
-ghost use Rattle.sefunjaro.specs.Files.{IsFileFault};
-ghost use Rattle.sefunjaro.specs.Posix.{IsPosixFault, IsStandardOf};
-ghost use Rattle.sefunjaro.specs.declared.file.PosixFault.TheVariants.{NoMemory as NoPosixMemory};
+ghost use Rattle.zone_tzif_core.specs.{Shown.{kind_shown}, ZoneFiles.{zone_seen}, Zones.{is_small}};
+ghost use Rattle.sefunjaro.specs.{Files.{IsFileFault}, Posix.{IsPosixFault, IsStandardOf}, declared.file.PosixFault.TheVariants.{NoMemory as NoPosixMemory}};
 
 use crate::answer::{Answer, lent_answer};
 use crate::clock::Clock;
@@ -58,17 +54,9 @@ pub enum PosixFault {
 
 impl FileZone {
     ghost use Rattle.std.specs.Prelude.{[], pos, IfSome};
-    ghost use Rattle.civil_base.specs.DateTimes.{instant};
-    ghost use Rattle.tz_tzif.specs.Faults.{HasOffsets, IsAcceptedFile};
-    ghost use Rattle.civil_base.specs.Instants.{seconds_of};
-    ghost use Rattle.tz_tzif.specs.InForce.{kind_in, told_total_at};
-    ghost use Rattle.tz_tzif.specs.Zones.{IsZoneOf};
-    ghost use Rattle.sefunjaro.specs.Answers.{IsAnswered, IsHeldOn};
-    ghost use Rattle.sefunjaro.specs.Answered.{first_of, AreReadings, IsInForce, IsShown};
-    ghost use Rattle.sefunjaro.specs.Offsets.{offsets_of, AreInYears};
-    ghost use Rattle.sefunjaro.specs.Rooms.{filled};
-    ghost use Rattle.sefunjaro.specs.Shown.{AreClocks, AreTexts};
-    ghost use Rattle.sefunjaro.specs.Found.{AreToldOf};
+    ghost use Rattle.civil_base.specs.{DateTimes.{instant}, Instants.{seconds_of}};
+    ghost use Rattle.tz_tzif.specs.{Faults.{HasOffsets, IsAcceptedFile}, InForce.{kind_in, told_total_at}, Zones.{IsZoneOf}};
+    ghost use Rattle.sefunjaro.specs.{Answers.{IsAnswered, IsHeldOn}, Answered.{first_of, AreReadings, IsInForce, IsShown}, Offsets.{offsets_of, AreInYears}, Rooms.{filled}, Shown.{AreClocks, AreTexts}, Found.{AreToldOf}};
     ghost use Rattle.sefunjaro.specs.Files.{file_value, given_at, IsFileFault, IsFileOf, IsPosixOf, IsValueFault, SaysOf};
 
     /// The zone of a compiled file (RFC 8536, any version), with what its footer, if it has one, says from the last change on. It

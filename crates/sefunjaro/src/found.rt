@@ -1,15 +1,8 @@
 //! One instant of each of many local times, by rules for those that clocks show more than once or never.
 ghost use Rattle.std.specs.Prelude.{◌≡◌, ◌<◌, ℤ, IfSome, MatchOption, length, slice_index_or};
-ghost use Rattle.civil_base.specs.Instants.{nanos_of};
-ghost use Rattle.civil_base.specs.Ranges.{IsInYears};
-ghost use Rattle.tz_tzif.specs.InForce.{told_total_at};
-ghost use Rattle.tz_tzif.specs.Zones.{value_of, says_of};
-ghost use Rattle.sefunjaro.specs.Answered.{AreReadings};
-ghost use Rattle.sefunjaro.specs.Clocks.{clock_shown};
-ghost use Rattle.sefunjaro.specs.Found.{by_gap, by_offset, AreFound, AreLocalTimes, AreToldOf, IsFirstFaulty, IsFound};
-ghost use Rattle.sefunjaro.specs.FoundSteps.{by_count, IsOnly};
-ghost use Rattle.sefunjaro.specs.Steadiness.{IsSteady};
-ghost use Rattle.sefunjaro.specs.Stretches.{IsKnown, IsStretch};
+ghost use Rattle.civil_base.specs.{Instants.{nanos_of}, Ranges.{IsInYears}};
+ghost use Rattle.tz_tzif.specs.{InForce.{told_total_at}, Zones.{value_of, says_of}};
+ghost use Rattle.sefunjaro.specs.{Answered.{AreReadings}, Clocks.{clock_shown}, Found.{by_gap, by_offset, AreFound, AreLocalTimes, AreToldOf, IsFirstFaulty, IsFound}, FoundSteps.{by_count, IsOnly}, Steadiness.{IsSteady}, Stretches.{IsKnown, IsStretch}};
 ghost use Rattle.sefunjaro.specs.Zones.{total_in};
 
 use crate::clock::Clock;

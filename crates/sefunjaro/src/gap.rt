@@ -1,10 +1,7 @@
 //! The change by which clocks skip a local time.
 ghost use Rattle.std.specs.Prelude.{◌≡◌, ◌-◌, ◌<◌, ◌+ℤ◌, ◌≤ℤ◌, ◌<ℤ◌, IfSome, IsTrue, int_lt};
-ghost use Rattle.civil_base.specs.DateTimes.{instant};
-ghost use Rattle.civil_base.specs.Instants.{instant_at, nanos_of};
-ghost use Rattle.civil_base.specs.Ranges.{IsInYears};
-ghost use Rattle.sefunjaro.specs.Gaps.{IsSkippedBy};
-ghost use Rattle.sefunjaro.specs.GapPlaces.{nth_offset, HoldsSeconds, IsNeverRead};
+ghost use Rattle.civil_base.specs.{DateTimes.{instant}, Instants.{instant_at, nanos_of}, Ranges.{IsInYears}};
+ghost use Rattle.sefunjaro.specs.{Gaps.{IsSkippedBy}, GapPlaces.{nth_offset, HoldsSeconds, IsNeverRead}};
 
 use crate::offsets::Stretches;
 use crate::shown::is_in_years;

@@ -1,17 +1,12 @@
 //! The offsets of many seconds, by a cursor that remembers what was in force at the last one.
 ghost use Rattle.std.specs.Prelude.{◌≡◌, ◌<◌, ◌≤◌, false, IsTrue, length, pos, slice_index_or, unsigned_abs, ℤ};
-ghost use Rattle.civil_base.specs.Instants.{nanos_of};
-ghost use Rattle.tz_ever.specs.Ever.{ever_total};
-ghost use Rattle.tz_ever.specs.EverShown.{ever_seen};
+ghost use Rattle.civil_base.specs.{Instants.{nanos_of}, Ranges.{IsInYears, IsOffset}};
+ghost use Rattle.tz_ever.specs.{Ever.{ever_total}, EverShown.{ever_seen}};
 ghost use Rattle.tz_lookup.specs.CompactShown.{seen};
-ghost use Rattle.sefunjaro.specs.Stretches.{ever_in_range, IsKnown, IsStretch};
-ghost use Rattle.tz_tzif.specs.InForce.{told_total_at};
-ghost use Rattle.tz_tzif.specs.Zones.{value_of, says_of};
+ghost use Rattle.sefunjaro.specs.{Stretches.{ever_in_range, IsKnown, IsStretch}, Offsets.{offsets_of, AreInYears}, Rooms.{filled}};
+ghost use Rattle.tz_tzif.specs.{InForce.{told_total_at}, Zones.{value_of, says_of}};
 ghost use Rattle.tz_zone.specs.Sets.{schedule_of};
 ghost use Rattle.zone_spans.specs.Schedules.{total_at};
-ghost use Rattle.civil_base.specs.Ranges.{IsInYears, IsOffset};
-ghost use Rattle.sefunjaro.specs.Offsets.{offsets_of, AreInYears};
-ghost use Rattle.sefunjaro.specs.Rooms.{filled};
 
 use crate::room::put;
 use crate::stretch::{Stretch, ever_stretch, stretch_of};

@@ -1,15 +1,10 @@
 //! From the bytes of a source to zones that can be asked.
 ghost use Rattle.std.specs.Prelude.{◌≡◌, ◌≤◌, None, IfErr, IfOk, OnOk, length, map as each};
-ghost use Rattle.zone_source.specs.Faults.{source_fault};
-ghost use Rattle.zone_source.specs.Zones.{values_of};
-ghost use Rattle.zone_table.specs.BoundedTables.{IsBoundedTable};
-ghost use Rattle.zone_table.specs.Tables.{IsTableOf};
-ghost use Rattle.tz_lookup.specs.CompactShown.{seen};
-ghost use Rattle.tz_lookup.specs.Compiles.{compiled_in, IsCompiledAs};
-ghost use Rattle.tz_lookup.specs.Databases.{names_of, found_in, found_as};
+ghost use Rattle.zone_source.specs.{Faults.{source_fault}, Zones.{values_of}};
+ghost use Rattle.zone_table.specs.{BoundedTables.{IsBoundedTable}, Tables.{IsTableOf}};
+ghost use Rattle.tz_lookup.specs.{CompactShown.{seen}, Compiles.{compiled_in, IsCompiledAs}, Databases.{names_of, found_in, found_as}};
 ghost use Rattle.tz_zone.specs.Sets.{schedule_of, IsAccepted};
-ghost use Rattle.sefunjaro.specs.Causes.{IsSourceCause, IsZoneCause, IsDatabaseCause};
-ghost use Rattle.sefunjaro.specs.declared.error.Error.TheVariants.{NoMemory};
+ghost use Rattle.sefunjaro.specs.{Causes.{IsSourceCause, IsZoneCause, IsDatabaseCause}, declared.error.Error.TheVariants.{NoMemory}};
 
 use crate::error::Error;
 use std::alloc::Global;

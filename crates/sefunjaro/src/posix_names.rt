@@ -1,9 +1,6 @@
 //! Whether POSIX has a place for the names in a string, and for its times.
-ghost use Rattle.std.specs.Prelude.{◌≡◌, IsTrue, option_map};
-ghost use Rattle.std.specs.List.{list_all};
-ghost use Rattle.tz_posix.specs.Shown.{dst_shown, tz_shown};
-ghost use Rattle.tz_posix.specs.Spells.{Spells};
-ghost use Rattle.tz_posix.specs.Values.{TzValue};
+ghost use Rattle.std.specs.{Prelude.{◌≡◌, IsTrue, option_map}, List.{list_all}};
+ghost use Rattle.tz_posix.specs.{Shown.{dst_shown, tz_shown}, Spells.{Spells}, Values.{TzValue}};
 ghost use Rattle.sefunjaro.specs.PosixNames.{has_posix_names, has_posix_times, is_posix_byte, is_posix_name, is_posix_rule, is_posix_string, is_posix_time, is_saving_named, is_saving_timed, IsSpelled};
 
 use tz_posix::laws::one_reading;

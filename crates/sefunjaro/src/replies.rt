@@ -1,11 +1,8 @@
 //! An open zone as replies ask it.
 ghost use Rattle.std.specs.Prelude.{◌≡◌, length, map, IfOk};
-ghost use Rattle.tz_zone.specs.InForce.{all_in_force, shown_of};
-ghost use Rattle.tz_zone.specs.Sets.{schedule_of, IsAccepted};
+ghost use Rattle.tz_zone.specs.{InForce.{all_in_force, shown_of}, Sets.{schedule_of, IsAccepted}};
 ghost use Rattle.zone_replies.specs.Forces.{force_shown};
-ghost use Rattle.sefunjaro.specs.Changes.{span_before, window};
-ghost use Rattle.sefunjaro.specs.Replies.{differing, force_of, span_on};
-ghost use Rattle.sefunjaro.specs.Zones.{spans_in};
+ghost use Rattle.sefunjaro.specs.{Changes.{span_before, window}, Replies.{differing, force_of, span_on}, Zones.{spans_in}};
 
 use crate::changes::{Change, entries_before, span_in_force_at};
 use crate::zone::OpenZone;
@@ -119,8 +116,7 @@ fn differing_within(
 }
 
 impl ReplyZone for OpenZone {
-    ghost use Rattle.sefunjaro.specs.Replies.{reply_view};
-    ghost use Rattle.sefunjaro.specs.Zones.{ever_in, set_in};
+    ghost use Rattle.sefunjaro.specs.{Replies.{reply_view}, Zones.{ever_in, set_in}};
 
     ghost view = { λ zone. reply_view (set_in zone) (ever_in zone) };
 

@@ -1,7 +1,6 @@
 //! When a daily alarm rings in a zone of any kind.
 ghost use Rattle.std.specs.Prelude.{MatchResult};
-ghost use Rattle.sefunjaro.specs.Answered.{AreRings};
-ghost use Rattle.sefunjaro.specs.Causes.{IsAlarmCause};
+ghost use Rattle.sefunjaro.specs.{Answered.{AreRings}, Causes.{IsAlarmCause}};
 
 use crate::error::Error;
 use crate::file::FileZone;
@@ -31,9 +30,7 @@ fn rings_in<T: TimeZone>(
 
 impl AnyZone {
     ghost use Rattle.std.specs.Prelude.{MatchResult};
-    ghost use Rattle.sefunjaro.specs.Answered.{AreRings};
-    ghost use Rattle.sefunjaro.specs.Any.{Seen};
-    ghost use Rattle.sefunjaro.specs.Causes.{IsAlarmCause};
+    ghost use Rattle.sefunjaro.specs.{Answered.{AreRings}, Any.{Seen}, Causes.{IsAlarmCause}};
 
     /// When a daily alarm rings that is set to a time of day: one [`Ring`] for each of so many days, from the first on, as [`alarms`]
     /// has them.
@@ -59,9 +56,7 @@ impl AnyZone {
 
 impl OpenZone {
     ghost use Rattle.std.specs.Prelude.{MatchResult};
-    ghost use Rattle.sefunjaro.specs.Answered.{AreRings};
-    ghost use Rattle.sefunjaro.specs.Causes.{IsAlarmCause};
-    ghost use Rattle.sefunjaro.specs.Zones.{total_in};
+    ghost use Rattle.sefunjaro.specs.{Answered.{AreRings}, Causes.{IsAlarmCause}, Zones.{total_in}};
 
     /// The same of a zone of a source.
     ///
@@ -87,9 +82,7 @@ impl OpenZone {
 impl FileZone {
     ghost use Rattle.std.specs.Prelude.{MatchResult};
     ghost use Rattle.tz_tzif.specs.InForce.{told_total_at};
-    ghost use Rattle.sefunjaro.specs.Answered.{AreRings};
-    ghost use Rattle.sefunjaro.specs.Causes.{IsAlarmCause};
-    ghost use Rattle.sefunjaro.specs.Files.{file_value, SaysOf};
+    ghost use Rattle.sefunjaro.specs.{Answered.{AreRings}, Causes.{IsAlarmCause}, Files.{file_value, SaysOf}};
 
     /// The same of a zone of a file or of a string.
     ///

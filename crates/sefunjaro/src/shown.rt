@@ -1,12 +1,7 @@
 //! What clocks show at many seconds, and the texts of it.
 ghost use Rattle.std.specs.Prelude.{◌≡◌, ℤ, IsTrue, ◌≤◌, ◌*◌, ◌++◌, ◌∷◌, [], length};
-ghost use Rattle.civil_base.specs.DateTimes.{local_of};
-ghost use Rattle.civil_base.specs.Instants.{instant_at, local_at, nanos_of};
-ghost use Rattle.civil_base.specs.Layout.{day_part, time_part, offset_text, zoned_text};
-ghost use Rattle.civil_base.specs.Ranges.{is_in_years, IsInYears, IsOffset};
-ghost use Rattle.sefunjaro.specs.Clocks.{clock_at};
-ghost use Rattle.sefunjaro.specs.Rooms.{filled, filled_from};
-ghost use Rattle.sefunjaro.specs.Shown.{clocks_of, is_shown, most_texts, textless_place, texts_of, unshown_place, AreClocks, AreShown, AreTexts};
+ghost use Rattle.civil_base.specs.{DateTimes.{local_of}, Instants.{instant_at, local_at, nanos_of}, Layout.{day_part, time_part, offset_text, zoned_text}, Ranges.{is_in_years, IsInYears, IsOffset}};
+ghost use Rattle.sefunjaro.specs.{Clocks.{clock_at}, Rooms.{filled, filled_from}, Shown.{clocks_of, is_shown, most_texts, textless_place, texts_of, unshown_place, AreClocks, AreShown, AreTexts}};
 
 use crate::clock::Clock;
 use crate::offsets::{Stretches, UNKNOWN, next, second_at};

@@ -1,12 +1,10 @@
 //! A source that is kept open, and its names in order.
-ghost use Rattle.std.specs.Prelude.{◌≡◌, IfErr, IfOk};
-ghost use Rattle.sefunjaro.specs.Zones.{GoesOnAs};
+ghost use Rattle.std.{specs.Prelude.{◌≡◌, IfErr, IfOk}, proofs.Props.{props}};
+ghost use Rattle.sefunjaro.specs.{Zones.{GoesOnAs}, Releases.{if_some, release_text}};
 ghost use Rattle.tz_ever.specs.Opens.{IsZoneToday};
 ghost use Rattle.tz_zone.specs.Compiles.{compiled_in, IsZoneFault};
 ghost use Rattle.tz_lookup.specs.Databases.{names_of};
-ghost use Rattle.std.proofs.Props.{props};
 ghost use Rattle.zone_table.specs.BoundedTables.{IsBoundedTable};
-ghost use Rattle.sefunjaro.specs.Releases.{if_some, release_text};
 ghost use Rattle.zone_source.specs.Releases.{release_of};
 
 use crate::zone::OpenZone;
@@ -67,21 +65,12 @@ pub enum OpenFault {
 }
 
 impl OpenSource {
-    ghost use Rattle.std.specs.Prelude.{◌≡◌, ◌≤◌, IfOk, IfErr, OnOk, None, length};
-    ghost use Rattle.std.specs.List.{slice_get};
-    ghost use Rattle.std.specs.Option.{option_copied};
+    ghost use Rattle.std.specs.{Prelude.{◌≡◌, ◌≤◌, IfOk, IfErr, OnOk, None, length}, List.{slice_get}, Option.{option_copied}};
     ghost use Rattle.tz_lookup.specs.Databases.{names_of};
-    ghost use Rattle.tz_zone.specs.Compiles.{compiled_in, IsZoneFault};
-    ghost use Rattle.zone_table.specs.BoundedTables.{IsBoundedTable};
-    ghost use Rattle.zone_table.specs.Tables.{IsTableOf};
-    ghost use Rattle.zone_source.specs.Faults.{source_fault};
-    ghost use Rattle.zone_source.specs.Zones.{values_of};
-    ghost use Rattle.sefunjaro.specs.Faults.{IsOpenFault, IsReadFault};
-    ghost use Rattle.sefunjaro.specs.Sources.{table_in, release_in};
-    ghost use Rattle.zone_source.specs.Releases.{release_of};
-    ghost use Rattle.sefunjaro.specs.Zones.{ever_in, set_in, GoesOnAs, IsAsCompiled, IsOpened};
-    ghost use Rattle.tz_zone.specs.Sets.{schedule_of, IsAccepted};
-    ghost use Rattle.sefunjaro.specs.declared.source.OpenFault.TheVariants.{NoMemory};
+    ghost use Rattle.tz_zone.specs.{Compiles.{compiled_in, IsZoneFault}, Sets.{schedule_of, IsAccepted}};
+    ghost use Rattle.zone_table.specs.{BoundedTables.{IsBoundedTable}, Tables.{IsTableOf}};
+    ghost use Rattle.zone_source.specs.{Faults.{source_fault}, Zones.{values_of}, Releases.{release_of}};
+    ghost use Rattle.sefunjaro.specs.{Faults.{IsOpenFault, IsReadFault}, Sources.{table_in, release_in}, Zones.{ever_in, set_in, GoesOnAs, IsAsCompiled, IsOpened}, declared.source.OpenFault.TheVariants.{NoMemory}};
 
     /// Opens a source from its text in plain form, and in no other.
     ///

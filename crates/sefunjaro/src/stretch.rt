@@ -2,15 +2,10 @@
 ghost use Rattle.std.specs.Prelude.{◌≡◌, ◌<◌, ◌≤◌, ◌+◌, ◌*◌, ◌≤ℤ◌, ◌<ℤ◌, ◌+ℤ◌, ◌-ℤ◌, pos, length, ℕ, ℤ};
 ghost use Rattle.civil_base.specs.Ranges.{far_seconds};
 ghost use Rattle.zone_spans.specs.Schedules.{total_at};
-ghost use Rattle.tz_zone.specs.Sets.{schedule_of, shifts_of, IsAccepted};
-ghost use Rattle.tz_zone.specs.Spans.{shift_at, IsCut};
+ghost use Rattle.tz_zone.specs.{Sets.{schedule_of, shifts_of, IsAccepted}, Spans.{shift_at, IsCut}};
 ghost use Rattle.tz_lookup.specs.CompactShown.{seen};
-ghost use Rattle.tz_ever.specs.Ever.{ever_total};
-ghost use Rattle.tz_ever.specs.EverShown.{ever_seen};
-ghost use Rattle.sefunjaro.specs.Answers.{least_second};
-ghost use Rattle.sefunjaro.specs.AnswerSteps.{begin_second};
-ghost use Rattle.sefunjaro.specs.Stretches.{IsStretch};
-ghost use Rattle.tz_ever.specs.Unrolled.{next_seam_second, seam_second};
+ghost use Rattle.tz_ever.specs.{Ever.{ever_total}, EverShown.{ever_seen}, Unrolled.{next_seam_second, seam_second}};
+ghost use Rattle.sefunjaro.specs.{Answers.{least_second}, AnswerSteps.{begin_second}, Stretches.{IsStretch}};
 
 use std::marker::Brand;
 use std::sync::ledger::{Blank, Ledger};

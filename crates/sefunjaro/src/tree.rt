@@ -7,10 +7,8 @@ use zone_tree::{TreeFault, tree_of_table};
 
 impl OpenSource {
     ghost use Rattle.std.specs.Prelude.{◌≡◌, MatchResult, Ok};
-    ghost use Rattle.zone_tree.specs.Names.{finds_in_table};
-    ghost use Rattle.zone_tree.specs.Trees.{tree_by};
-    ghost use Rattle.sefunjaro.specs.Causes.{IsTreeCause};
-    ghost use Rattle.sefunjaro.specs.Sources.{release_in, table_in};
+    ghost use Rattle.zone_tree.specs.{Names.{finds_in_table}, Trees.{tree_by}};
+    ghost use Rattle.sefunjaro.specs.{Causes.{IsTreeCause}, Sources.{release_in, table_in}};
 
     /// Every zone of the source, and every link, in a tar archive, as [`tree`](zone_tree::tree) writes it of the source's plain form:
     /// that text isn't read again.

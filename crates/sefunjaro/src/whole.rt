@@ -9,20 +9,13 @@ use zone_tzif::{FileFault, consistent_tzif_of};
 
 impl OpenZone {
     ghost use Rattle.std.specs.Prelude.{◌≡◌, ℤ, IfErr, IfOk, IsErrOf, MatchResult, OnOk, string_bytes, false, true};
-    ghost use Rattle.zone_list.specs.Ranges.{all_have_dates};
-    ghost use Rattle.zone_list.specs.Rows.{rows};
-    ghost use Rattle.zone_list.specs.Windows.{window};
-    ghost use Rattle.sefunjaro.specs.Causes.{IsListCause};
+    ghost use Rattle.zone_list.specs.{Ranges.{all_have_dates}, Rows.{rows}, Windows.{window}};
+    ghost use Rattle.sefunjaro.specs.{Causes.{IsListCause}, Zones.{set_in, spans_in}};
     ghost use Rattle.zone_spans.specs.Schedules.{total_at as set_total_at};
     ghost use Rattle.tz_zone.specs.Sets.{schedule_of};
-    ghost use Rattle.zone_tail.specs.Carried.{CarriesOn};
-    ghost use Rattle.zone_tail.specs.Tails.{IsFaultOf, IsTail};
-    ghost use Rattle.zone_tzif_core.specs.Denotes.{Denotes};
-    ghost use Rattle.zone_tzif_core.specs.Totals.{file_total_at};
-    ghost use Rattle.zone_tzif_core.specs.Tzif.{IsTzif};
-    ghost use Rattle.zone_tzif_core.specs.Zones.{ZoneValue};
+    ghost use Rattle.zone_tail.specs.{Carried.{CarriesOn}, Tails.{IsFaultOf, IsTail}};
+    ghost use Rattle.zone_tzif_core.specs.{Denotes.{Denotes}, Totals.{file_total_at}, Tzif.{IsTzif}, Zones.{ZoneValue}};
     ghost use Rattle.zone_tzif.specs.Files.{consistent_zone, IsCarriedOn, MakesZone};
-    ghost use Rattle.sefunjaro.specs.Zones.{set_in, spans_in};
 
     /// The lines of the changes from a second on and before another, as [`list_lines`](zone_list::list_lines) has those of a set: the
     /// second, the abbreviation, and the time by the clocks of the zone, in columns. Those of a zone that goes on for ever are listed up

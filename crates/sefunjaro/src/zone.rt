@@ -1,23 +1,12 @@
 //! A zone of any kind that is kept open, and what it is asked.
-ghost use Rattle.std.specs.Prelude.{◌≡◌, ◌<◌, length, map, option_map};
-ghost use Rattle.civil_base.specs.Instants.{nanos_of};
-ghost use Rattle.civil_base.specs.Ranges.{IsInYears};
-ghost use Rattle.tz_tzif.specs.InForce.{told_total_at};
-ghost use Rattle.tz_tzif.specs.Zones.{value_of, says_of};
-ghost use Rattle.sefunjaro.specs.Answered.{AreReadings};
-ghost use Rattle.sefunjaro.specs.Gaps.{IsSkippedBy};
-ghost use Rattle.sefunjaro.specs.Stretches.{IsStretch};
-ghost use Rattle.tz_ever.specs.Ever.{ever_total};
-ghost use Rattle.tz_ever.specs.EverShown.{ever_seen};
-ghost use Rattle.tz_lookup.specs.CompactShown.{seen};
+ghost use Rattle.std.specs.{Prelude.{◌≡◌, ◌<◌, length, map, option_map}, List.{slice_get}};
+ghost use Rattle.civil_base.specs.{Instants.{nanos_of}, Ranges.{IsInYears}, DateTimes.{instant}};
+ghost use Rattle.tz_tzif.specs.{InForce.{told_total_at}, Zones.{value_of, says_of}};
+ghost use Rattle.sefunjaro.specs.{Answered.{AreReadings}, Gaps.{IsSkippedBy}, Stretches.{IsStretch}, Asked.{reading_of, IsNamed}, Rooms.{filled}, Zones.{total_in}};
+ghost use Rattle.tz_ever.specs.{Ever.{ever_total}, EverShown.{ever_seen}};
+ghost use Rattle.tz_lookup.specs.{CompactShown.{seen}, InForce.{all_in_force, shown_of}};
 ghost use Rattle.tz_zone.specs.Sets.{schedule_of};
 ghost use Rattle.zone_spans.specs.Schedules.{total_at};
-ghost use Rattle.std.specs.List.{slice_get};
-ghost use Rattle.civil_base.specs.DateTimes.{instant};
-ghost use Rattle.tz_lookup.specs.InForce.{all_in_force, shown_of};
-ghost use Rattle.sefunjaro.specs.Asked.{reading_of, IsNamed};
-ghost use Rattle.sefunjaro.specs.Rooms.{filled};
-ghost use Rattle.sefunjaro.specs.Zones.{total_in};
 
 use crate::answer::{Answer, answer_at};
 use crate::changes::{Change, changes, next_change, saving_at};
@@ -179,13 +168,7 @@ pub enum AnyZone {
 impl AnyZone {
     ghost use Rattle.std.specs.Prelude.{IfSome};
     ghost use Rattle.civil_base.specs.DateTimes.{instant};
-    ghost use Rattle.sefunjaro.specs.Answered.{first_of, IsInForce, IsShown};
-    ghost use Rattle.sefunjaro.specs.Answers.{IsAnswered, TellsSaving, TellsUntil};
-    ghost use Rattle.sefunjaro.specs.Any.{Seen};
-    ghost use Rattle.sefunjaro.specs.Found.{AreToldOf};
-    ghost use Rattle.sefunjaro.specs.Offsets.{offsets_of, AreInYears};
-    ghost use Rattle.sefunjaro.specs.Rooms.{filled};
-    ghost use Rattle.sefunjaro.specs.Shown.{AreClocks, AreTexts};
+    ghost use Rattle.sefunjaro.specs.{Answered.{first_of, IsInForce, IsShown}, Answers.{IsAnswered, TellsSaving, TellsUntil}, Any.{Seen}, Found.{AreToldOf}, Offsets.{offsets_of, AreInYears}, Rooms.{filled}, Shown.{AreClocks, AreTexts}};
 
     /// The seconds east of UTC that are in force at an instant.
     pub fn offset_at(&self, at: &OffsetDateTime) -> i32
@@ -358,25 +341,12 @@ pub struct OpenZone {
 }
 
 impl OpenZone {
-    ghost use Rattle.std.specs.Prelude.{◌≡◌, ◌≤ℤ◌, ◌<ℤ◌, ℤ, true, IfOk, IfSome, is_some, length, map, option_map};
-    ghost use Rattle.std.specs.List.{slice_get};
-    ghost use Rattle.civil_base.specs.DateTimes.{instant};
-    ghost use Rattle.civil_base.specs.Instants.{local_at};
-    ghost use Rattle.civil_base.specs.Ranges.{is_in_years};
-    ghost use Rattle.tz_zone.specs.InForce.{all_in_force, in_force as force_at, shown_of};
-    ghost use Rattle.tz_zone.specs.Sets.{schedule_of, IsAccepted};
-    ghost use Rattle.civil_base.specs.Instants.{seconds_of};
-    ghost use Rattle.sefunjaro.specs.Answers.{IsAnswered, IsBetween};
-    ghost use Rattle.sefunjaro.specs.Asked.{reading_of, IsNamed};
-    ghost use Rattle.sefunjaro.specs.Changes.{next_after, saving_at as saving_of, window};
-    ghost use Rattle.sefunjaro.specs.Found.{AreToldOf};
-    ghost use Rattle.sefunjaro.specs.Gaps.{IsSkippedBy};
-    ghost use Rattle.sefunjaro.specs.Offsets.{offsets_of, AreInYears};
-    ghost use Rattle.sefunjaro.specs.Rooms.{filled};
-    ghost use Rattle.sefunjaro.specs.Shown.{AreClocks, AreTexts};
-    ghost use Rattle.sefunjaro.specs.Zones.{ever_in, given_in, last_year, set_in, spans_in, total_in};
-    ghost use Rattle.tz_lookup.specs.CompactShown.{seen};
-    ghost use Rattle.tz_lookup.specs.CompactZones.{compact_of};
+    ghost use Rattle.std.specs.{Prelude.{◌≡◌, ◌≤ℤ◌, ◌<ℤ◌, ℤ, true, IfOk, IfSome, is_some, length, map, option_map}, List.{slice_get}};
+    ghost use Rattle.civil_base.specs.{DateTimes.{instant}, Instants.{local_at}, Ranges.{is_in_years}, Instants.{seconds_of}};
+    ghost use Rattle.tz_zone.specs.{InForce.{all_in_force, in_force as force_at, shown_of}, Sets.{schedule_of, IsAccepted}};
+    ghost use Rattle.sefunjaro.specs.{Answers.{IsAnswered, IsBetween}, Asked.{reading_of, IsNamed}, Changes.{next_after, saving_at as saving_of, window}, Found.{AreToldOf}, Gaps.{IsSkippedBy}, Offsets.{offsets_of, AreInYears}, Rooms.{filled}};
+    ghost use Rattle.sefunjaro.specs.{Shown.{AreClocks, AreTexts}, Zones.{ever_in, given_in, last_year, set_in, spans_in, total_in}};
+    ghost use Rattle.tz_lookup.specs.{CompactShown.{seen}, CompactZones.{compact_of}};
 
     /// A set that can be looked up, kept compactly, with what goes on for ever.
     pub(crate) fn of_set(

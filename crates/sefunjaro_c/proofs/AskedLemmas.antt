@@ -1,9 +1,7 @@
 -- What is held, and what may be asked.
-use Rattle.std.proofs.Common.{◌≡◌, ℕ, Bool, true, refl, sym, ◌∙◌, subst}
-use Rattle.std.specs.Prelude.{Option, Some, None, MatchOption, IsSomeAnd}
+use Rattle.std.{proofs.Common.{◌≡◌, ℕ, Bool, true, refl, sym, ◌∙◌, subst}, specs.Prelude.{Option, Some, None, MatchOption, IsSomeAnd}}
 use Rattle.sefunjaro.specs.declared.zone.AnyZone.{AnyZone}
-use Rattle.sefunjaro_handles.specs.Held.{OfZone, OnZone}
-use Rattle.sefunjaro_handles.specs.declared.opened.Opened.{Opened}
+use Rattle.sefunjaro_handles.specs.{Held.{OfZone, OnZone}, declared.opened.Opened.{Opened}}
 use Rattle.sefunjaro_c.specs.Answers.{Where, Within}
 
 -- what holds of the value that is read holds of what the handle holds

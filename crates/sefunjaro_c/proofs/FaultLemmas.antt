@@ -1,24 +1,14 @@
 -- What is refused, and what is opened.
-use Rattle.std.proofs.Common.{◌≡◌, ◌<◌, ◌≤◌, ℕ, true, false, cond, List, length, inl, inr, refl, sym, ap, ◌∙◌, subst, arith}
-use Rattle.std.proofs.lemmas.Bool.{lt-ltb, le-ltb}
-use Rattle.std.specs.Prelude.{Option, Some, None, option_map}
-use Rattle.std.specs.Str.{is_utf8}
-use Rattle.zone_source.specs.Faults.{SourceFault, source_fault}
+use Rattle.std.{proofs.Common.{◌≡◌, ◌<◌, ◌≤◌, ℕ, true, false, cond, List, length, inl, inr, refl, sym, ap, ◌∙◌, subst, arith}, proofs.lemmas.Bool.{lt-ltb, le-ltb}, specs.Prelude.{Option, Some, None, option_map}, specs.Str.{is_utf8}}
+use Rattle.zone_source.specs.{Faults.{SourceFault, source_fault}, Told.{told_by_source}}
 use Rattle.zone_source.specs.Faults as source
-use Rattle.zone_source.specs.Told.{told_by_source}
 use Rattle.zone_table.specs.declared.table.Table.{Table}
-use Rattle.tz_zone.specs.Compiles.{compiled_in, IsZoneFault}
-use Rattle.tz_zone.specs.declared.compile.ZoneFault.{ZoneFault}
+use Rattle.tz_zone.specs.{Compiles.{compiled_in, IsZoneFault}, declared.compile.ZoneFault.{ZoneFault}}
 use Rattle.tz_zone.specs.declared.compile.ZoneFault.TheVariants as zone
 use Rattle.tz_lookup.specs.Databases.{refusal_of, zone_refusal}
-use Rattle.sefunjaro.specs.Faults.{IsOpenFault}
-use Rattle.sefunjaro.specs.declared.source.OpenFault.{OpenFault}
+use Rattle.sefunjaro.specs.{Faults.{IsOpenFault}, declared.source.OpenFault.{OpenFault}, declared.source.OpenSource.{OpenSource}}
 use Rattle.sefunjaro.specs.declared.source.OpenFault.TheVariants as opening
-use Rattle.sefunjaro.specs.declared.source.OpenSource.{OpenSource}
-use Rattle.sefunjaro_handles.specs.Held.{IsSource}
-use Rattle.sefunjaro_handles.specs.Statuses.{not_text, too_long}
-use Rattle.sefunjaro_handles.specs.declared.opened.Opened.{Opened}
-use Rattle.sefunjaro_handles.specs.declared.opened.Opened.TheVariants.{Source, Zone}
+use Rattle.sefunjaro_handles.specs.{Held.{IsSource}, Statuses.{not_text, too_long}, declared.opened.Opened.{Opened}, declared.opened.Opened.TheVariants.{Source, Zone}}
 use Rattle.sefunjaro_c.specs.Faults.{fault_told, told_or_memory, opening_told, zone_told, plain, source_due, zone_due, IsRefused}
 
 pub told_positive : (fault : SourceFault) → 0 < (fault_told fault).status

@@ -1,9 +1,6 @@
 -- Which seconds of a list may be asked.
-use Rattle.std.proofs.Common.{◌≡◌, ℕ, zero, suc, ◌<◌, true, false, cond, List, [], ◌∷◌, length, get_or, ℤ, pos, refl, sym, subst, ap, ◌∙◌, inl, inr, arith}
-use Rattle.std.specs.Prelude.{Option, Some, None, option_map}
-use Rattle.std.proofs.lemmas.Bool.{cases_Bool}
-use Rattle.civil_base.specs.Instants.{nanos_of}
-use Rattle.civil_base.specs.Ranges.{is_in_years}
+use Rattle.std.{proofs.Common.{◌≡◌, ℕ, zero, suc, ◌<◌, true, false, cond, List, [], ◌∷◌, length, get_or, ℤ, pos, refl, sym, subst, ap, ◌∙◌, inl, inr, arith}, specs.Prelude.{Option, Some, None, option_map}, proofs.lemmas.Bool.{cases_Bool}}
+use Rattle.civil_base.specs.{Instants.{nanos_of}, Ranges.{is_in_years}}
 use Rattle.sefunjaro.specs.Offsets.{AreInYears}
 use Rattle.sefunjaro_c.specs.Lists.{far_place, OfPlace}
 

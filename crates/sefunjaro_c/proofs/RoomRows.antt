@@ -1,21 +1,10 @@
 -- Worked examples: what is told where there is too little room, a nanosecond too much, and the version. A name goes as far as it fits, and
 -- its whole length is told, not the room's; of a list it is how many there are, whatever the room.
-use Rattle.std.proofs.Common.{◌≡◌, ℕ, ℤ, pos, List, [], ◌∷◌, length, refl, ◌∙◌, arith}
-use Rattle.std.specs.Prelude.{Some, codes}
+use Rattle.std.{proofs.Common.{◌≡◌, ℕ, ℤ, pos, List, [], ◌∷◌, length, refl, ◌∙◌, arith}, specs.Prelude.{Some, codes}}
 use Rattle.tz_zone.specs.InForce.{all_in_force}
-use Rattle.sefunjaro.specs.Answered.{AreReadings}
-use Rattle.sefunjaro.specs.Changes.{window}
-use Rattle.sefunjaro.specs.Clocks.{IsClock}
-use Rattle.sefunjaro.specs.Rooms.{filled}
-use Rattle.sefunjaro.specs.Zones.{spans_in}
-use Rattle.sefunjaro.specs.declared.zone.Reading.{Reading}
-use Rattle.sefunjaro.specs.declared.changes.Change.{Change}
-use Rattle.sefunjaro.specs.declared.clock.Clock.{Clock}
-use Rattle.sefunjaro.specs.declared.gap.Gap.{Gap}
+use Rattle.sefunjaro.specs.{Answered.{AreReadings}, Changes.{window}, Clocks.{IsClock}, Rooms.{filled}, Zones.{spans_in}, declared.zone.Reading.{Reading}, declared.changes.Change.{Change}, declared.clock.Clock.{Clock}, declared.gap.Gap.{Gap}}
 use Rattle.sefunjaro.specs.declared.zone.OpenZone.{OpenZone}
-use Rattle.sefunjaro_c.specs.Changes.{AreChanges}
-use Rattle.sefunjaro_c.specs.Names.{IsNameAt}
-use Rattle.sefunjaro_c.specs.Version.{rule_years, version}
+use Rattle.sefunjaro_c.specs.{Changes.{AreChanges}, Names.{IsNameAt}, Version.{rule_years, version}}
 
 -- thirteen bytes where there is room for four
 abbrev cut_to : ℕ → Type 0

@@ -1,18 +1,8 @@
 -- What is seen of zones of any kind, and instants at the offset in force.
-use Rattle.std.proofs.Common.{◌≡◌, ℕ, Bool, false, List, ℤ, refl, sym, ap, subst, arith}
-use Rattle.std.specs.Prelude.{Some, None}
-use Rattle.std.proofs.lemmas.Int.{ints}
-use Rattle.civil_base.specs.DateTimes.{instant, local_of, offset_of}
-use Rattle.civil_base.specs.Instants.{instant_at, local_at}
-use Rattle.civil_base.specs.declared.offset_date_time.OffsetDateTime.{OffsetDateTime}
+use Rattle.std.{proofs.Common.{◌≡◌, ℕ, Bool, false, List, ℤ, refl, sym, ap, subst, arith}, specs.Prelude.{Some, None}, proofs.lemmas.Int.{ints}}
+use Rattle.civil_base.specs.{DateTimes.{instant, local_of, offset_of}, Instants.{instant_at, local_at}, declared.offset_date_time.OffsetDateTime.{OffsetDateTime}, Ranges.{is_in_years}}
 use Rattle.tz_zone.specs.InForce.{in_force, shown_of}
-use Rattle.civil_base.specs.Ranges.{is_in_years}
-use Rattle.sefunjaro.specs.Answered.{IsShown}
-use Rattle.sefunjaro.specs.Answers.{IsAnswer}
-use Rattle.sefunjaro.specs.Any.{Seen}
-use Rattle.sefunjaro.specs.declared.answer.Answer.{Answer}
-use Rattle.sefunjaro.specs.declared.zone.AnyZone.{AnyZone}
-use Rattle.sefunjaro.specs.declared.zone.AnyZone.TheVariants.{Source, File}
+use Rattle.sefunjaro.specs.{Answered.{IsShown}, Answers.{IsAnswer}, Any.{Seen}, declared.answer.Answer.{Answer}, declared.zone.AnyZone.{AnyZone}, declared.zone.AnyZone.TheVariants.{Source, File}}
 use Rattle.sefunjaro_c.specs.Answers.{is_shown, IsShownAs, Where}
 
 -- what follows from what is seen, whatever zone it is

@@ -1,15 +1,9 @@
 -- The texts of instants are text, and an instant in parts.
-use Rattle.std.proofs.Common.{◌≡◌, ◌+◌, ◌<◌, ◌/◌, ◌%◌, ℕ, zero, suc, Bool, true, false, cond, ℤ, pos, negsuc, ◌+ℤ◌, ◌*ℤ◌, ◌≤ℤ◌, List, [], ◌∷◌, ◌++◌, map, refl, sym, subst, arith}
-use Rattle.std.specs.Prelude.{int_lt, unsigned_abs}
-use Rattle.std.specs.Int.{int_rem_euclid}
-use Rattle.std.specs.Str.{is_utf8, IsAscii}
-use Rattle.std.proofs.lemmas.Int.{ints}
-use Rattle.std.proofs.lemmas.Str.{is_utf8-from_IsUtf8, IsUtf8-from_ascii, IsAscii-append}
-use Rattle.std.proofs.lemmas.Str.Ascii.{IsAscii-nil}
+use Rattle.std.proofs.{Common.{◌≡◌, ◌+◌, ◌<◌, ◌/◌, ◌%◌, ℕ, zero, suc, Bool, true, false, cond, ℤ, pos, negsuc, ◌+ℤ◌, ◌*ℤ◌, ◌≤ℤ◌, List, [], ◌∷◌, ◌++◌, map, refl, sym, subst, arith}, lemmas.Int.{ints}}
+use Rattle.std.proofs.lemmas.Str.{is_utf8-from_IsUtf8, IsUtf8-from_ascii, IsAscii-append, Ascii.{IsAscii-nil}}
+use Rattle.std.specs.{Prelude.{int_lt, unsigned_abs}, Int.{int_rem_euclid}, Str.{is_utf8, IsAscii}}
 use Rattle.basics.specs.Dates.{year_of, month_of, day_of}
-use Rattle.civil_base.specs.Clock.{hour_of, minute_of, second_of, nanosecond_of}
-use Rattle.civil_base.specs.Instants.{local_at, seconds_of}
-use Rattle.civil_base.specs.Layout.{date_digits, day_part, four_digits, local_text, nine_digits, offset_text, time_part, time_text, two_digits, year_sign, zoned_text}
+use Rattle.civil_base.specs.{Clock.{hour_of, minute_of, second_of, nanosecond_of}, Instants.{local_at, seconds_of}, Layout.{date_digits, day_part, four_digits, local_text, nine_digits, offset_text, time_part, time_text, two_digits, year_sign, zoned_text}}
 
 cons : (b : ℕ) (bs : List ℕ) → b < 128 → IsAscii bs → IsAscii (b ∷ bs)
 cons b bs h all zero = h

@@ -1,15 +1,8 @@
 -- Which instants may be asked.
-use Rattle.std.proofs.Common.{◌≡◌, ◌<◌, true, ℤ, pos, ◌+ℤ◌, ◌-ℤ◌, ◌*ℤ◌, ◌≤ℤ◌, ◌<ℤ◌, to_z, of_z, unsigned_abs, arith}
-use Rattle.std.specs.Prelude.{◌&&◌}
-use Rattle.std.specs.Int.{w128}
-use Rattle.std.proofs.lemmas.Int.{ints}
-use Rattle.basics.specs.ComparisonLaws.{le_pass, lt_pass}
-use Rattle.basics.specs.SignedLaws.{signed_casts}
-use Rattle.civil_base.specs.DateTimes.{instant, local_of, offset_of}
-use Rattle.civil_base.specs.Instants.{instant_at, local_at, nanos_of}
-use Rattle.civil_base.specs.RangeLaws.{offset_least, offset_greatest, offset_size, years_begin, years_end}
-use Rattle.civil_base.specs.Ranges.{end_of_times, first_time, greatest_offset, IsInYears, IsOffset}
-use Rattle.civil_base.specs.declared.offset_date_time.OffsetDateTime.{OffsetDateTime}
+use Rattle.std.{proofs.Common.{◌≡◌, ◌<◌, true, ℤ, pos, ◌+ℤ◌, ◌-ℤ◌, ◌*ℤ◌, ◌≤ℤ◌, ◌<ℤ◌, to_z, of_z, unsigned_abs, arith}, specs.Prelude.{◌&&◌}, specs.Int.{w128}, proofs.lemmas.Int.{ints}}
+use Rattle.basics.specs.{ComparisonLaws.{le_pass, lt_pass}, SignedLaws.{signed_casts}}
+use Rattle.civil_base.specs.{DateTimes.{instant, local_of, offset_of}, Instants.{instant_at, local_at, nanos_of}, RangeLaws.{offset_least, offset_greatest, offset_size, years_begin, years_end}}
+use Rattle.civil_base.specs.{Ranges.{end_of_times, first_time, greatest_offset, IsInYears, IsOffset}, declared.offset_date_time.OffsetDateTime.{OffsetDateTime}}
 use Rattle.sefunjaro_c.specs.Times.{is_near}
 
 -- the first and the end of all near instants

@@ -1,6 +1,5 @@
 -- Worked examples: faults of sources in any form as they are told. The numbers are those of the header.
-use Rattle.std.proofs.Common.{◌≡◌, refl}
-use Rattle.std.specs.Prelude.{Some, Err}
+use Rattle.std.{proofs.Common.{◌≡◌, refl}, specs.Prelude.{Some, Err}}
 use Rattle.zone_plain_lines.specs.declared.cause.PlainCause.TheVariants as cause
 use Rattle.zone_plain_base.specs.LineFaults.{at, bad_line}
 use Rattle.zone_plain_base.specs.LineFaults as refused

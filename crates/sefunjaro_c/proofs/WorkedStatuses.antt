@@ -1,6 +1,5 @@
 -- Worked examples: faults as they are told, and what may be answered. The numbers are those of the header.
-use Rattle.std.proofs.Common.{◌≡◌, ℕ, suc, true, false, refl, [], ◌∷◌, map, arith}
-use Rattle.std.specs.Prelude.{None}
+use Rattle.std.{proofs.Common.{◌≡◌, ℕ, suc, true, false, refl, [], ◌∷◌, map, arith}, specs.Prelude.{None}}
 use Rattle.zone_source.specs.Faults as source
 use Rattle.zone_source.specs.declared.error.BuildKind.TheVariants as join
 use Rattle.zone_spans.specs.declared.fault.SpanFault.TheVariants as span
@@ -8,9 +7,7 @@ use Rattle.tz_zone.specs.declared.compile.ZoneFault.TheVariants as zone
 use Rattle.sefunjaro.specs.declared.file.FileFault.TheVariants as file
 use Rattle.sefunjaro.specs.declared.file.PosixFault.TheVariants as posix
 use Rattle.sefunjaro_handles.specs.Statuses.{IfRefused}
-use Rattle.sefunjaro_c.specs.Answers.{Where}
-use Rattle.sefunjaro_c.specs.Files.{file_told, posix_told}
-use Rattle.sefunjaro_c.specs.Faults.{fault_told, plain, told_or_memory, zone_told}
+use Rattle.sefunjaro_c.specs.{Answers.{Where}, Files.{file_told, posix_told}, Faults.{fault_told, plain, told_or_memory, zone_told}}
 
 -- a line that isn't text, one that may not follow those before it, and want of memory
 third_line_no_text : fault_told (source.not_text 3) ≡ record { status = 4; cause = 0; line = 3 }

@@ -1,7 +1,6 @@
 -- Worked examples: which instants may be asked, at the edges of the years.
 use Rattle.std.proofs.Common.{◌≡◌, true, false, pos, negsuc, refl, [], ◌∷◌, Some, None}
-use Rattle.sefunjaro_c.specs.Lists.{far_place}
-use Rattle.sefunjaro_c.specs.Times.{is_instant}
+use Rattle.sefunjaro_c.specs.{Lists.{far_place}, Times.{is_instant}}
 
 -- 10000-01-01 04:30 UTC, when clocks in New York show 23:30 on the last day of 9999
 new_york : is_instant (pos 253402317000) 0 ≡ true

@@ -1,13 +1,7 @@
 -- What a zone answers.
 use Rattle.std.specs.Prelude.{◌≡◌, ◌⊎◌, ℕ, ℤ, Bool, true, false, List, length}
-use Rattle.civil_base.specs.DateTimes.{instant, local_of, offset_of}
-use Rattle.civil_base.specs.declared.offset_date_time.OffsetDateTime.{OffsetDateTime}
-use Rattle.civil_base.specs.Instants.{local_at}
-use Rattle.civil_base.specs.Layout.{day_part, time_part, zoned_text}
-use Rattle.civil_base.specs.Ranges.{is_in_years}
-use Rattle.sefunjaro.specs.Clocks.{clock_at, clock_shown, IsClock}
-use Rattle.sefunjaro.specs.Rooms.{filled}
-use Rattle.sefunjaro.specs.declared.clock.Clock.{Clock}
+use Rattle.civil_base.specs.{DateTimes.{instant, local_of, offset_of}, declared.offset_date_time.OffsetDateTime.{OffsetDateTime}, Instants.{local_at}, Layout.{day_part, time_part, zoned_text}, Ranges.{is_in_years}}
+use Rattle.sefunjaro.specs.{Clocks.{clock_at, clock_shown, IsClock}, Rooms.{filled}, declared.clock.Clock.{Clock}}
 use Rattle.sefunjaro_handles.specs.Statuses.{done, out_of_range}
 
 -- where the question may be asked it is answered; else it is out of range, and what is kept is kept

@@ -5,17 +5,12 @@ use Rattle.zone_plain_lines.specs.declared.cause.PlainCause.TheVariants as cause
 use Rattle.zone_plain_base.specs.LineFaults.{Refusal, bad_line}
 use Rattle.zone_plain_base.specs.LineFaults as refused
 use Rattle.zone_plain.specs.Plain.{plain_of}
-use Rattle.zone_source.specs.Releases.{release_of}
-use Rattle.zone_source.specs.Faults.{source_fault}
-use Rattle.zone_source.specs.Zones.{values_of}
+use Rattle.zone_source.specs.{Releases.{release_of}, Faults.{source_fault}, Zones.{values_of}}
 use Rattle.zone_table.specs.Tables.{IsTableOf}
-use Rattle.sefunjaro.specs.Sources.{table_in, release_in}
-use Rattle.sefunjaro.specs.declared.any_source.AnySourceFault.{AnySourceFault}
+use Rattle.sefunjaro.specs.{Sources.{table_in, release_in}, declared.any_source.AnySourceFault.{AnySourceFault}, declared.source.OpenSource.{OpenSource}}
 use Rattle.sefunjaro.specs.declared.any_source.AnySourceFault.TheVariants as opening
-use Rattle.sefunjaro.specs.declared.source.OpenSource.{OpenSource}
 use Rattle.sefunjaro_handles.specs.Statuses.{no_plain_form, out_of_memory, too_long}
-use Rattle.sefunjaro_c.specs.Faults.{error_told, fault_told, plain}
-use Rattle.sefunjaro_c.specs.declared.fault.Fault.{Fault}
+use Rattle.sefunjaro_c.specs.{Faults.{error_told, fault_told, plain}, declared.fault.Fault.{Fault}}
 
 -- the cause of a line that has no plain form
 abbrev pub plain_number : PlainCause → ℕ

@@ -1,16 +1,7 @@
 -- The changes of a zone, and the ring of an alarm.
 use Rattle.std.specs.Prelude.{◌≡◌, ◌⊎◌, ℕ, ℤ, List, Option, Some, None, length}
-use Rattle.sefunjaro.specs.Answered.{first_of}
-use Rattle.sefunjaro.specs.Any.{Seen}
-use Rattle.sefunjaro.specs.Changes.{window}
-use Rattle.sefunjaro.specs.Clocks.{clock_shown, IsClock}
-use Rattle.sefunjaro.specs.Rooms.{filled}
-use Rattle.sefunjaro.specs.Zones.{spans_in}
-use Rattle.sefunjaro.specs.declared.zone.AnyZone.{AnyZone}
-use Rattle.sefunjaro.specs.declared.zone.Reading.{Reading}
-use Rattle.sefunjaro.specs.declared.changes.Change.{Change}
-use Rattle.sefunjaro.specs.declared.clock.Clock.{Clock}
-use Rattle.sefunjaro.specs.declared.zone.OpenZone.{OpenZone}
+use Rattle.sefunjaro.specs.{Answered.{first_of}, Any.{Seen}, Changes.{window}, Clocks.{clock_shown, IsClock}, Rooms.{filled}, Zones.{spans_in}, declared.zone.AnyZone.{AnyZone}, declared.zone.Reading.{Reading}, declared.changes.Change.{Change}}
+use Rattle.sefunjaro.specs.declared.{clock.Clock.{Clock}, zone.OpenZone.{OpenZone}}
 use Rattle.sefunjaro_handles.specs.Statuses.{done, none_there, out_of_range}
 
 -- what is found is told; there may be none

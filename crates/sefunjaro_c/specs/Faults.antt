@@ -1,6 +1,5 @@
 -- Why a source or a zone isn't opened, in numbers.
-use Rattle.std.specs.Prelude.{◌≡◌, ◌<◌, ◌⊎◌, ℕ, List, length, nat_lt, Option, Some, None, option_map, if◌then◌else◌}
-use Rattle.std.specs.Str.{is_utf8}
+use Rattle.std.specs.{Prelude.{◌≡◌, ◌<◌, ◌⊎◌, ℕ, List, length, nat_lt, Option, Some, None, option_map, if◌then◌else◌}, Str.{is_utf8}}
 use Rattle.zone_values.specs.declared.fault.FaultKind.{FaultKind}
 use Rattle.zone_values.specs.declared.fault.FaultKind.TheVariants.{
   FailedYearParse,
@@ -13,12 +12,9 @@ use Rattle.zone_values.specs.declared.fault.FaultKind.TheVariants.{
   InvalidTimeSpecAndType,
   NonWallClockInTimeSpec,
 }
-use Rattle.zone_source.specs.Faults.{SourceFault, source_fault}
+use Rattle.zone_source.specs.{Faults.{SourceFault, source_fault}, Told.{told_by_source}, declared.error.BuildKind.{BuildKind}, declared.error.SourceError.{SourceError}}
 use Rattle.zone_source.specs.Faults as source
-use Rattle.zone_source.specs.Told.{told_by_source}
-use Rattle.zone_source.specs.declared.error.BuildKind.{BuildKind}
 use Rattle.zone_source.specs.declared.error.BuildKind.TheVariants as join
-use Rattle.zone_source.specs.declared.error.SourceError.{SourceError}
 use Rattle.zone_spans.specs.declared.fault.SpanFault.{SpanFault}
 use Rattle.zone_spans.specs.declared.fault.SpanFault.TheVariants as span
 use Rattle.zone_table.specs.declared.table.Table.{Table}

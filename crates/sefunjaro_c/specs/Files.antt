@@ -1,16 +1,10 @@
 -- Zones that are opened from the bytes of a compiled file, or from a POSIX string.
-use Rattle.std.specs.Prelude.{◌≡◌, ◌<◌, ◌⊎◌, ℕ, List, true, false}
-use Rattle.std.specs.Str.{is_utf8}
-use Rattle.sefunjaro.specs.Files.{IsFileFault, IsPosixOf}
-use Rattle.sefunjaro.specs.Posix.{IsPosixFault}
-use Rattle.sefunjaro.specs.declared.file.FileFault.{FileFault}
+use Rattle.std.specs.{Prelude.{◌≡◌, ◌<◌, ◌⊎◌, ℕ, List, true, false}, Str.{is_utf8}}
+use Rattle.sefunjaro.specs.{Files.{IsFileFault, IsPosixOf}, Posix.{IsPosixFault}, declared.file.FileFault.{FileFault}, declared.file.FileZone.{FileZone}, declared.file.PosixFault.{PosixFault}}
 use Rattle.sefunjaro.specs.declared.file.FileFault.TheVariants as file
-use Rattle.sefunjaro.specs.declared.file.FileZone.{FileZone}
-use Rattle.sefunjaro.specs.declared.file.PosixFault.{PosixFault}
 use Rattle.sefunjaro.specs.declared.file.PosixFault.TheVariants as posix
 use Rattle.sefunjaro_handles.specs.Statuses.{not_read, not_text, out_of_memory}
-use Rattle.sefunjaro_c.specs.Faults.{plain}
-use Rattle.sefunjaro_c.specs.declared.fault.Fault.{Fault}
+use Rattle.sefunjaro_c.specs.{Faults.{plain}, declared.fault.Fault.{Fault}}
 
 -- why a file isn't opened, in numbers
 abbrev pub file_told : FileFault → Fault

@@ -1,29 +1,16 @@
 -- The string that carries a zone on for ever, and the zone's file with it; and why there is none, in numbers.
 use Rattle.std.specs.Prelude.{◌≡◌, ◌⊎◌, ℕ, ℤ, Bool, true, List, length, Option, Some, None}
-use Rattle.tz_ever.specs.Ever.{ever_total}
-use Rattle.tz_ever.specs.EverShown.{ever_seen}
-use Rattle.tz_ever.specs.declared.ever_set.EverSet.{EverSet}
-use Rattle.tz_tzif.specs.FooterForce.{FooterZone}
-use Rattle.tz_posix.specs.Spells.{Spells}
-use Rattle.tz_posix.specs.Values.{TzValue}
-use Rattle.tz_tzif.specs.Faults.{SaysInFooter}
-use Rattle.tz_tzif.specs.InForce.{told_total_at}
-use Rattle.zone_tzif.specs.Tails.{IsFaultForEver, IsTailForEver}
-use Rattle.zone_tzif.specs.declared.outcome.EverTailFault.{EverTailFault}
+use Rattle.tz_ever.specs.{Ever.{ever_total}, EverShown.{ever_seen}, declared.ever_set.EverSet.{EverSet}}
+use Rattle.tz_tzif.specs.{FooterForce.{FooterZone}, Faults.{SaysInFooter}, InForce.{told_total_at}}
+use Rattle.tz_posix.specs.{Spells.{Spells}, Values.{TzValue}}
+use Rattle.zone_tzif.specs.{Tails.{IsFaultForEver, IsTailForEver}, declared.outcome.EverTailFault.{EverTailFault}, EverFiles.{IsEverFile, IsEverFileFault, IsInReach}, declared.ever.EverFileFault.{EverFileFault}, declared.file.FileFault.{FileFault}}
 use Rattle.zone_tzif.specs.declared.outcome.EverTailFault.TheVariants as tail
-use Rattle.zone_tzif_core.specs.Denotes.{Denotes}
-use Rattle.zone_tzif_core.specs.Zones.{ZoneValue}
-use Rattle.zone_tzif.specs.EverFiles.{IsEverFile, IsEverFileFault, IsInReach}
-use Rattle.zone_tzif.specs.declared.ever.EverFileFault.{EverFileFault}
 use Rattle.zone_tzif.specs.declared.ever.EverFileFault.TheVariants as ever_fault
-use Rattle.zone_tzif.specs.declared.file.FileFault.{FileFault}
 use Rattle.zone_tzif.specs.declared.file.FileFault.TheVariants as file
-use Rattle.sefunjaro.specs.PosixNames.{is_posix_string, IsSpelled}
-use Rattle.sefunjaro.specs.Rooms.{filled}
+use Rattle.zone_tzif_core.specs.{Denotes.{Denotes}, Zones.{ZoneValue}}
+use Rattle.sefunjaro.specs.{PosixNames.{is_posix_string, IsSpelled}, Rooms.{filled}}
 use Rattle.sefunjaro_handles.specs.Statuses.{done, out_of_memory}
-use Rattle.sefunjaro_c.specs.Faults.{plain}
-use Rattle.sefunjaro_c.specs.Whole.{none_for}
-use Rattle.sefunjaro_c.specs.declared.fault.Fault.{Fault}
+use Rattle.sefunjaro_c.specs.{Faults.{plain}, Whole.{none_for}, declared.fault.Fault.{Fault}}
 
 -- the zone doesn't go on
 abbrev pub rules_end : Fault

@@ -1,11 +1,6 @@
 -- One instant of each of some local times.
 use Rattle.std.specs.Prelude.{◌≡◌, ◌⊎◌, ℕ, ℤ, List, Option, Some, None, ◌==◌, if◌then◌else◌}
-use Rattle.sefunjaro.specs.Found.{AreFound, AreLocalTimes, IsFirstFaulty}
-use Rattle.sefunjaro.specs.declared.clock.Clock.{Clock}
-use Rattle.sefunjaro.specs.declared.found.FoldRule.{FoldRule}
-use Rattle.sefunjaro.specs.declared.found.FoldRule.TheVariants.{First, Second}
-use Rattle.sefunjaro.specs.declared.found.Found.{Found}
-use Rattle.sefunjaro.specs.declared.found.GapRule.{GapRule}
+use Rattle.sefunjaro.specs.{Found.{AreFound, AreLocalTimes, IsFirstFaulty}, declared.clock.Clock.{Clock}, declared.found.FoldRule.{FoldRule}, declared.found.FoldRule.TheVariants.{First, Second}, declared.found.Found.{Found}, declared.found.GapRule.{GapRule}}
 use Rattle.sefunjaro.specs.declared.found.GapRule.TheVariants as gap_rule
 use Rattle.sefunjaro_handles.specs.Statuses.{done, out_of_range}
 

@@ -1,15 +1,9 @@
 -- What is opened.
 use Rattle.std.specs.Prelude.{◌≡◌, ℕ, List, None}
-use Rattle.zone_table.specs.Tables.{IsTableOf}
-use Rattle.zone_table.specs.declared.table.Table.{Table}
-use Rattle.zone_source.specs.Releases.{release_of}
-use Rattle.zone_source.specs.Zones.{values_of}
-use Rattle.tz_zone.specs.Compiles.{compiled_in}
-use Rattle.tz_zone.specs.Sets.{schedule_of, IsAccepted}
-use Rattle.sefunjaro.specs.Sources.{table_in, release_in}
-use Rattle.sefunjaro.specs.Zones.{ever_in, set_in, GoesOnAs, IsAsCompiled, IsOpened}
-use Rattle.sefunjaro.specs.declared.source.OpenSource.{OpenSource}
-use Rattle.sefunjaro.specs.declared.zone.OpenZone.{OpenZone}
+use Rattle.zone_table.specs.{Tables.{IsTableOf}, declared.table.Table.{Table}}
+use Rattle.zone_source.specs.{Releases.{release_of}, Zones.{values_of}}
+use Rattle.tz_zone.specs.{Compiles.{compiled_in}, Sets.{schedule_of, IsAccepted}}
+use Rattle.sefunjaro.specs.{Sources.{table_in, release_in}, Zones.{ever_in, set_in, GoesOnAs, IsAsCompiled, IsOpened}, declared.source.OpenSource.{OpenSource}, declared.zone.OpenZone.{OpenZone}}
 use Rattle.sefunjaro_c.specs.Faults.{source_due}
 
 -- the source is that of a text with no fault, with the release that the text names

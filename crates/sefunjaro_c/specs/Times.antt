@@ -1,7 +1,6 @@
 -- Instants in seconds and nanoseconds.
 use Rattle.std.specs.Prelude.{ℕ, ℤ, pos, ◌+ℤ◌, ◌-ℤ◌, Bool, ◌&&◌, nat_lt, int_le, int_lt}
-use Rattle.civil_base.specs.Instants.{nanos_of}
-use Rattle.civil_base.specs.Ranges.{end_of_times, first_time, greatest_offset}
+use Rattle.civil_base.specs.{Instants.{nanos_of}, Ranges.{end_of_times, first_time, greatest_offset}}
 
 -- so many seconds from 1970-01-01 00:00:00 UTC and so many nanoseconds more
 abbrev pub nanos_at : ℤ → ℕ → ℤ

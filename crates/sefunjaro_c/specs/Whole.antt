@@ -1,26 +1,16 @@
 -- The string that carries a zone on, and the zone's file; and why there is none, in numbers.
 use Rattle.std.specs.Prelude.{◌≡◌, ◌⊎◌, ℕ, ℤ, Bool, List, length, Option, None, option_map}
-use Rattle.zone_tail.specs.Carried.{CarriesOn}
-use Rattle.zone_tail.specs.Tails.{tail_fault, IsTail}
-use Rattle.zone_tail.specs.declared.outcome.TailFault.{TailFault}
+use Rattle.zone_tail.specs.{Carried.{CarriesOn}, Tails.{tail_fault, IsTail}, declared.outcome.TailFault.{TailFault}}
 use Rattle.zone_tail.specs.declared.outcome.TailFault.TheVariants as tail
-use Rattle.zone_tzif_core.specs.Denotes.{Denotes}
-use Rattle.zone_tzif_core.specs.Totals.{file_total_at}
-use Rattle.zone_tzif_core.specs.Zones.{ZoneValue}
-use Rattle.zone_tzif_core.specs.declared.values.WriteFault.{WriteFault}
+use Rattle.zone_tzif_core.specs.{Denotes.{Denotes}, Totals.{file_total_at}, Zones.{ZoneValue}, declared.values.WriteFault.{WriteFault}}
 use Rattle.zone_tzif_core.specs.declared.values.WriteFault.TheVariants as write
-use Rattle.zone_tzif.specs.Files.{consistent_fault, consistent_file, IsCarriedOn}
-use Rattle.zone_tzif.specs.declared.file.FileFault.{FileFault}
+use Rattle.zone_tzif.specs.{Files.{consistent_fault, consistent_file, IsCarriedOn}, declared.file.FileFault.{FileFault}}
 use Rattle.zone_tzif.specs.declared.file.FileFault.TheVariants as file
-use Rattle.sefunjaro.specs.PosixNames.{has_posix_names}
-use Rattle.sefunjaro.specs.Rooms.{filled}
-use Rattle.sefunjaro.specs.Zones.{set_in}
+use Rattle.sefunjaro.specs.{PosixNames.{has_posix_names}, Rooms.{filled}, Zones.{set_in}, declared.zone.OpenZone.{OpenZone}}
 use Rattle.tz_zone.specs.Sets.{schedule_of}
 use Rattle.zone_spans.specs.Schedules.{total_at}
-use Rattle.sefunjaro.specs.declared.zone.OpenZone.{OpenZone}
 use Rattle.sefunjaro_handles.specs.Statuses.{done, none_there, out_of_memory}
-use Rattle.sefunjaro_c.specs.Faults.{plain, IsRefused}
-use Rattle.sefunjaro_c.specs.declared.fault.Fault.{Fault}
+use Rattle.sefunjaro_c.specs.{Faults.{plain, IsRefused}, declared.fault.Fault.{Fault}}
 
 -- there is none of what is asked for, for this cause
 abbrev pub none_for : ℕ → Fault

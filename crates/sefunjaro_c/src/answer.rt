@@ -1,12 +1,9 @@
 //! All that a zone says of an instant, in one call.
 ghost use Rattle.std.specs.Prelude.{◌≡◌, IfSome};
 ghost use Rattle.civil_base.specs.DateTimes.{instant};
-ghost use Rattle.sefunjaro.specs.Answers.{IsAnswer, TellsSaving, TellsUntil};
-ghost use Rattle.sefunjaro.specs.Any.{Seen};
-ghost use Rattle.sefunjaro_c.specs.Answers.{is_shown, Where, Within};
-ghost use Rattle.sefunjaro_c.specs.Times.{is_instant, nanos_at};
-ghost use Rattle.sefunjaro_handles.specs.Held.{OfZone, OnZone};
-ghost use Rattle.sefunjaro_handles.specs.Statuses.{done, IfRefused};
+ghost use Rattle.sefunjaro.specs.{Answers.{IsAnswer, TellsSaving, TellsUntil}, Any.{Seen}};
+ghost use Rattle.sefunjaro_c.specs.{Answers.{is_shown, Where, Within}, Times.{is_instant, nanos_at}};
+ghost use Rattle.sefunjaro_handles.specs.{Held.{OfZone, OnZone}, Statuses.{done, IfRefused}};
 
 use crate::fault::{DONE, NOT_OPEN, OUT_OF_RANGE};
 use crate::zones::instant_of;

@@ -1,9 +1,7 @@
 //! Sources in any form that `zic` reads.
 ghost use Rattle.std.specs.Prelude.{◌≡◌, IfErr, IfOk, IfSome, MatchOption, is_some, nat_eq};
-ghost use Rattle.sefunjaro_c.specs.AnySources.{any_due, any_told, plain_number, IsAnySourceOf};
-ghost use Rattle.sefunjaro_c.specs.Faults.{plain, IsRefused};
-ghost use Rattle.sefunjaro_handles.specs.Held.{IsSource};
-ghost use Rattle.sefunjaro_handles.specs.Statuses.{done};
+ghost use Rattle.sefunjaro_c.specs.{AnySources.{any_due, any_told, plain_number, IsAnySourceOf}, Faults.{plain, IsRefused}};
+ghost use Rattle.sefunjaro_handles.specs.{Held.{IsSource}, Statuses.{done}};
 
 use crate::fault::{DONE, Fault, NO_MEMORY, NO_PLAIN_FORM, TOO_LONG, plain_fault, source_fault};
 use sefunjaro::{AnySourceFault, OpenSource};

@@ -1,12 +1,8 @@
 //! The saving and the changes of a zone, the ring of a daily alarm, and the last year up to whose end a zone says what is in force.
 ghost use Rattle.std.specs.Prelude.{◌≡◌, IfSome};
-ghost use Rattle.sefunjaro_c.specs.Answers.{Where};
-ghost use Rattle.sefunjaro_c.specs.Changes.{AreChanges, IsFound, IsRing};
-ghost use Rattle.sefunjaro_c.specs.Times.{is_instant};
-ghost use Rattle.sefunjaro_handles.specs.Held.{OfKept, OfZone, OnZone};
-ghost use Rattle.sefunjaro_handles.specs.Statuses.{IfRefused};
-ghost use Rattle.sefunjaro.specs.Changes.{next_after, saving_at};
-ghost use Rattle.sefunjaro.specs.Zones.{ever_in, last_year, spans_in};
+ghost use Rattle.sefunjaro_c.specs.{Answers.{Where}, Changes.{AreChanges, IsFound, IsRing}, Times.{is_instant}};
+ghost use Rattle.sefunjaro_handles.specs.{Held.{OfKept, OfZone, OnZone}, Statuses.{IfRefused}};
+ghost use Rattle.sefunjaro.specs.{Changes.{next_after, saving_at}, Zones.{ever_in, last_year, spans_in}};
 
 use crate::fault::{DONE, NONE_THERE, NOT_KEPT, NOT_OPEN, OUT_OF_RANGE};
 use crate::zones::instant_of;

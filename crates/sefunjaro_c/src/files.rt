@@ -1,11 +1,8 @@
 //! Zones that are opened from the bytes of a compiled file, or from a POSIX string.
 ghost use Rattle.std.specs.Prelude.{◌≡◌, IfErr, IfOk, IfSome, MatchOption, is_some, nat_eq};
-ghost use Rattle.sefunjaro_c.specs.Faults.{plain};
-ghost use Rattle.sefunjaro_c.specs.Files.{file_told, posix_told, IsFileRefused, IsPosixRefused, IsTextOf};
-ghost use Rattle.sefunjaro_handles.specs.Held.{IsZone};
-ghost use Rattle.sefunjaro_handles.specs.Statuses.{done};
-ghost use Rattle.sefunjaro.specs.Any.{IsOfFile};
-ghost use Rattle.sefunjaro.specs.Files.{IsFileOf};
+ghost use Rattle.sefunjaro_c.specs.{Faults.{plain}, Files.{file_told, posix_told, IsFileRefused, IsPosixRefused, IsTextOf}};
+ghost use Rattle.sefunjaro_handles.specs.{Held.{IsZone}, Statuses.{done}};
+ghost use Rattle.sefunjaro.specs.{Any.{IsOfFile}, Files.{IsFileOf}};
 
 use crate::fault::{DONE, Fault, NO_MEMORY, NOT_READ, NOT_TEXT, plain_fault};
 use sefunjaro::{AnyZone, FileFault, FileZone, PosixFault};

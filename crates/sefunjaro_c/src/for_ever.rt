@@ -1,10 +1,8 @@
 //! A zone for ever as a whole: the string that carries it on, and its file.
 ghost use Rattle.std.specs.Prelude.{◌≡◌, IfSome, Some};
 ghost use Rattle.sefunjaro.specs.Zones.{ever_in};
-ghost use Rattle.sefunjaro_c.specs.Faults.{plain};
-ghost use Rattle.sefunjaro_c.specs.ForEver.{ever_file_told, ever_tail_told, ever_told, IsEverFileTold, IsEverTailTold};
-ghost use Rattle.sefunjaro_handles.specs.Held.{OfKept, OfZone, OnZone};
-ghost use Rattle.sefunjaro_handles.specs.Statuses.{not_kept, not_open, IfRefused};
+ghost use Rattle.sefunjaro_c.specs.{Faults.{plain}, ForEver.{ever_file_told, ever_tail_told, ever_told, IsEverFileTold, IsEverTailTold}};
+ghost use Rattle.sefunjaro_handles.specs.{Held.{OfKept, OfZone, OnZone}, Statuses.{not_kept, not_open, IfRefused}};
 
 use crate::fault::{DONE, Fault, NO_MEMORY, NOT_KEPT, NOT_OPEN, plain_fault};
 use crate::whole::none_for;

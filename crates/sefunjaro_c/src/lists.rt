@@ -1,12 +1,8 @@
 //! What a zone is asked of many seconds at once.
 ghost use Rattle.std.specs.Prelude.{◌≡◌, ◌<◌, length, pos, slice_index_or, IfSome};
-ghost use Rattle.sefunjaro.specs.Any.{Seen};
-ghost use Rattle.sefunjaro.specs.Offsets.{offsets_of};
-ghost use Rattle.sefunjaro.specs.Rooms.{filled};
-ghost use Rattle.sefunjaro.specs.Shown.{clocks_of, textless_place, texts_of, unshown_place};
+ghost use Rattle.sefunjaro.specs.{Any.{Seen}, Offsets.{offsets_of}, Rooms.{filled}, Shown.{clocks_of, textless_place, texts_of, unshown_place}};
 ghost use Rattle.sefunjaro_c.specs.Lists.{far_place, OfPlace};
-ghost use Rattle.sefunjaro_handles.specs.Held.{OfZone, OnZone};
-ghost use Rattle.sefunjaro_handles.specs.Statuses.{IfRefused};
+ghost use Rattle.sefunjaro_handles.specs.{Held.{OfZone, OnZone}, Statuses.{IfRefused}};
 
 use crate::fault::{DONE, NOT_OPEN, OUT_OF_RANGE};
 use sefunjaro::{Clock, is_in_years};

@@ -2,8 +2,7 @@
 ghost use Rattle.std.specs.Prelude.{◌≡◌, IfSome};
 ghost use Rattle.sefunjaro.specs.Any.{Seen};
 ghost use Rattle.sefunjaro_c.specs.Found.{fold_of, gap_of, AreInstantsTold, OfRules};
-ghost use Rattle.sefunjaro_handles.specs.Held.{OfZone, OnZone};
-ghost use Rattle.sefunjaro_handles.specs.Statuses.{IfRefused};
+ghost use Rattle.sefunjaro_handles.specs.{Held.{OfZone, OnZone}, Statuses.{IfRefused}};
 
 use crate::fault::{DONE, NOT_OPEN, OUT_OF_RANGE};
 use sefunjaro::{AnyZone, Clock, FoldRule, Found, GapRule};

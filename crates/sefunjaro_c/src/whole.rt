@@ -1,9 +1,7 @@
 //! A zone as a whole: the string that carries it on, and its file.
 ghost use Rattle.std.specs.Prelude.{◌≡◌, IfSome};
-ghost use Rattle.sefunjaro_c.specs.Faults.{plain};
-ghost use Rattle.sefunjaro_c.specs.Whole.{tzif_told, none_for, tail_told, IsFileTold, IsTailTold};
-ghost use Rattle.sefunjaro_handles.specs.Held.{OfKept, OfZone, OnZone};
-ghost use Rattle.sefunjaro_handles.specs.Statuses.{not_kept, not_open, IfRefused};
+ghost use Rattle.sefunjaro_c.specs.{Faults.{plain}, Whole.{tzif_told, none_for, tail_told, IsFileTold, IsTailTold}};
+ghost use Rattle.sefunjaro_handles.specs.{Held.{OfKept, OfZone, OnZone}, Statuses.{not_kept, not_open, IfRefused}};
 
 use crate::fault::{DONE, Fault, NO_MEMORY, NONE_THERE, NOT_KEPT, NOT_OPEN, plain_fault};
 use sefunjaro::{AnyZone, OpenZone, fill, has_posix_names};

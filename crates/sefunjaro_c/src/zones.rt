@@ -1,18 +1,9 @@
 //! What a zone is asked: instants, local times and readings.
 ghost use Rattle.std.specs.Prelude.{◌≡◌, ◌<◌, IfNone, IfSome, MatchOption, is_some, true, false, unsigned_abs, IfErr, IfOk, length, nat_eq};
-ghost use Rattle.civil_base.specs.DateTimes.{instant, local_of, offset_of};
-ghost use Rattle.civil_base.specs.Instants.{instant_at, local_at};
-ghost use Rattle.civil_base.specs.Ranges.{is_in_years, IsOffset};
-ghost use Rattle.sefunjaro_c.specs.Read.{local_in, IsInstantOf, IsLocalRead, IsNoZonedText, IsZonedRead};
-ghost use Rattle.sefunjaro_c.specs.Times.{is_instant, is_near, nanos_at};
-ghost use Rattle.sefunjaro_handles.specs.Statuses.{IfRefused, out_of_memory};
-ghost use Rattle.civil_base.specs.Layout.{day_part, time_part, zoned_text};
-ghost use Rattle.sefunjaro_c.specs.Answers.{is_shown, IsClockIn, IsTextIn, OfClock, Within, Where};
-ghost use Rattle.sefunjaro_handles.specs.Held.{OfZone, OnZone, IsZone};
-ghost use Rattle.sefunjaro.specs.Answered.{AreReadings, IsInForce};
-ghost use Rattle.sefunjaro.specs.Any.{Seen};
-ghost use Rattle.sefunjaro.specs.Clocks.{clock_at};
-ghost use Rattle.sefunjaro.specs.Rooms.{filled};
+ghost use Rattle.civil_base.specs.{DateTimes.{instant, local_of, offset_of}, Instants.{instant_at, local_at}, Ranges.{is_in_years, IsOffset}, Layout.{day_part, time_part, zoned_text}};
+ghost use Rattle.sefunjaro_c.specs.{Read.{local_in, IsInstantOf, IsLocalRead, IsNoZonedText, IsZonedRead}, Times.{is_instant, is_near, nanos_at}, Answers.{is_shown, IsClockIn, IsTextIn, OfClock, Within, Where}};
+ghost use Rattle.sefunjaro_handles.specs.{Statuses.{IfRefused, out_of_memory}, Held.{OfZone, OnZone, IsZone}};
+ghost use Rattle.sefunjaro.specs.{Answered.{AreReadings, IsInForce}, Any.{Seen}, Clocks.{clock_at}, Rooms.{filled}};
 
 use crate::fault::{DONE, NO_MEMORY, NOT_OPEN, NOT_READ, OUT_OF_RANGE};
 use civil_base::{OffsetDateTime, PlainDateTime, UtcOffset, read_local, read_zoned, write_zoned};

@@ -1,15 +1,9 @@
 -- A struct of one address: its machine value, and what it owns. Assumes `Logic`.
-use Rattle.std.proofs.Common.{◌≡◌, List, [], ◌∷◌, ◌++◌, refl, sym, subst, true, ◌&&◌, lit<}
+use Rattle.std.proofs.{Common.{◌≡◌, List, [], ◌∷◌, ◌++◌, refl, sym, subst, true, ◌&&◌, lit<}, alloc.Calls.{Al}, BoxSteps.Form.{Bx}}
+use Rattle.std.specs.{contracts.impls.GlobalAllocator.TheImpl.{ghosts, dict}, Prelude.{Option, Some, None, is_some}, Box.Ownership.{box_owns}}
 use Rattle.std.specs.contracts.alloc.Global as heap
 use Rattle.std.proofs.alloc.Global.TheLaws as heap_laws
-use Rattle.std.specs.contracts.impls.GlobalAllocator.TheImpl.{ghosts, dict}
-use Rattle.std.proofs.alloc.Calls.{Al}
-use Rattle.std.proofs.BoxSteps.Form.{Bx}
-use Rattle.std.specs.Prelude.{Option, Some, None, is_some}
-use Rattle.std.specs.Box.Ownership.{box_owns}
-use Rattle.sefunjaro_handles.specs.Heap.{token}
-use Rattle.sefunjaro_handles.specs.Handles.{owned_at}
-use Rattle.sefunjaro_handles.specs.Loans.{Loan, loan_owns, part_owns}
+use Rattle.sefunjaro_handles.specs.{Heap.{token}, Handles.{owned_at}, Loans.{Loan, loan_owns, part_owns}}
 use Rattle.sefunjaro_handles.specs.contracts.opened.Opened as Opened
 use Rattle.sefunjaro_handles.proofs.opened.Opened.TheLaws as opened_laws
 use seplogic.Ra.Ura.{Ura}

@@ -16,8 +16,7 @@ use denote.Memory.{lone}
 use denote.Struct.Lending.{lent_at, lent_at_shr_laws, Lends-lies}
 use mir.Raw.{raw as bare}
 use Rattle.std.specs.Box.Ownership.{box_owns}
-use Rattle.sefunjaro_handles.specs.Heap.{token}
-use Rattle.sefunjaro_handles.specs.Loans.{part_owns}
+use Rattle.sefunjaro_handles.specs.{Heap.{token}, Loans.{part_owns}}
 use Rattle.sefunjaro_handles.specs.contracts.opened.Opened as Opened
 use Rattle.sefunjaro_handles.proofs.opened.Opened.TheLaws as opened_laws
 

@@ -3,10 +3,8 @@ use Rattle.std.specs.Prelude.{Option, Some, None}
 use base.Fml.{Fml, ftrue}
 use base.Stored.{Coded}
 use denote.RawPtr.{Ptr}
-use Rattle.std.specs.Coded.{coded_option}
-use Rattle.std.specs.Box.Ownership.{box_owns}
-use Rattle.sefunjaro_handles.specs.Heap.{token}
-use Rattle.sefunjaro_handles.specs.contracts.opened.Opened.{the_row}
+use Rattle.std.specs.{Coded.{coded_option}, Box.Ownership.{box_owns}}
+use Rattle.sefunjaro_handles.specs.{Heap.{token}, contracts.opened.Opened.{the_row}}
 
 abbrev pub owned_at : Ptr → Option the_row.Denot → Fml
 owned_at at None = ftrue

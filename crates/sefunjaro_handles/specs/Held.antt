@@ -1,13 +1,7 @@
 -- What is asked of a handle that holds a source or a zone.
-use Rattle.std.specs.Prelude.{◌≡◌, ℕ, Option, Some, None}
-use Rattle.std.specs.Arc.{arc_value}
-use Rattle.sefunjaro.specs.declared.zone.AnyZone.{AnyZone}
-use Rattle.sefunjaro.specs.declared.zone.AnyZone.TheVariants.{Source as OfName, File as OfBytes}
-use Rattle.sefunjaro.specs.declared.source.OpenSource.{OpenSource}
-use Rattle.sefunjaro.specs.declared.zone.OpenZone.{OpenZone}
-use Rattle.sefunjaro_handles.specs.Statuses.{not_kept, not_open}
-use Rattle.sefunjaro_handles.specs.declared.opened.Opened.{Opened}
-use Rattle.sefunjaro_handles.specs.declared.opened.Opened.TheVariants.{Source, Zone}
+use Rattle.std.specs.{Prelude.{◌≡◌, ℕ, Option, Some, None}, Arc.{arc_value}}
+use Rattle.sefunjaro.specs.declared.{zone.AnyZone.{AnyZone}, zone.AnyZone.TheVariants.{Source as OfName, File as OfBytes}, source.OpenSource.{OpenSource}, zone.OpenZone.{OpenZone}}
+use Rattle.sefunjaro_handles.specs.{Statuses.{not_kept, not_open}, declared.opened.Opened.{Opened}, declared.opened.Opened.TheVariants.{Source, Zone}}
 
 -- a zone is answered for; anything else has the status of what isn't open, and what is kept is kept
 abbrev pub OfZone : Opened → ℕ → Type 0 → (AnyZone → Type 0) → Type 0

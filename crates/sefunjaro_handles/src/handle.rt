@@ -1,9 +1,6 @@
 //! What a caller in C holds: the address of a value on the heap, which owns it, or nothing.
-ghost use Rattle.std.specs.Prelude.{◌≡◌, None, Some, is_some, MatchOption, IsSomeAnd, Option, true};
-ghost use Rattle.std.specs.Box.Ownership.{box_owns};
-ghost use Rattle.sefunjaro_handles.specs.declared.opened.Opened.{Opened};
-ghost use Rattle.sefunjaro_handles.specs.Handles.{owned_at, opened_coded};
-ghost use Rattle.sefunjaro_handles.specs.Heap.{token};
+ghost use Rattle.std.specs.{Prelude.{◌≡◌, None, Some, is_some, MatchOption, IsSomeAnd, Option, true}, Box.Ownership.{box_owns}};
+ghost use Rattle.sefunjaro_handles.specs.{declared.opened.Opened.{Opened}, Handles.{owned_at, opened_coded}, Heap.{token}};
 
 use crate::opened::Opened;
 use std::alloc::Global;

@@ -14,8 +14,7 @@ pub enum Opened {
 }
 
 impl Opened {
-    ghost use Rattle.std.specs.Prelude.{◌≡◌, IfOk};
-    ghost use Rattle.std.specs.Arc.{arc_value};
+    ghost use Rattle.std.specs.{Prelude.{◌≡◌, IfOk}, Arc.{arc_value}};
     ghost use Rattle.sefunjaro_handles.specs.Held.{IsSource, IsZone};
 
     /// A source, on the heap.

@@ -1,8 +1,6 @@
 //! What a caller in C reads by: a copy of a handle, with a part of a loan; and the value that is lent, while it is read.
 ghost use Rattle.std.specs.Prelude.{◌≡◌, None, Some, is_some, IfSome, MatchOption, IsSomeAnd, Option, true};
-ghost use Rattle.sefunjaro_handles.specs.declared.opened.Opened.{Opened};
-ghost use Rattle.sefunjaro_handles.specs.Loans.{loan_owns, Loan, loan_coded, lent_coded, part_owns, part_shares};
-ghost use Rattle.sefunjaro_handles.specs.Handles.{opened_coded};
+ghost use Rattle.sefunjaro_handles.specs.{declared.opened.Opened.{Opened}, Loans.{loan_owns, Loan, loan_coded, lent_coded, part_owns, part_shares}, Handles.{opened_coded}};
 
 use crate::handle::Hidden;
 use crate::opened::Opened;

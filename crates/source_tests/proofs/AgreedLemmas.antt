@@ -1,24 +1,11 @@
 -- What a table's zone is compiled to, and what a text is parsed as, where it spells a value with a rule.
-use Rattle.std.proofs.Common.{◌≡◌, ℕ, List, Some, Ok, Err, sym, ap, ◌∙◌, subst}
-use Rattle.std.specs.FinMap.{get}
-use Rattle.std.specs.Prelude.{option_map}
-use Rattle.zone_table.specs.Resolved.{resolved_in}
-use Rattle.zone_table.specs.declared.table.Table.{Table}
-use Rattle.zone_table.specs.declared.zone.ZoneInfo.{ZoneInfo}
-use Rattle.zone_spans.specs.Compiled.{compiled}
-use Rattle.zone_spans.specs.Lines.{Rulesets}
+use Rattle.std.{proofs.Common.{◌≡◌, ℕ, List, Some, Ok, Err, sym, ap, ◌∙◌, subst}, specs.FinMap.{get}, specs.Prelude.{option_map}}
+use Rattle.zone_table.specs.{Resolved.{resolved_in}, declared.table.Table.{Table}, declared.zone.ZoneInfo.{ZoneInfo}}
+use Rattle.zone_spans.specs.{Compiled.{compiled}, Lines.{Rulesets}}
 use Rattle.tz_lookup.specs.Compiles.{compiled_in, spans_of, IsCompiledAs}
 use Rattle.tz_zone.specs.declared.set.FixedTimespanSet.{FixedTimespanSet}
-use Rattle.tz_posix.specs.Agreement.{RuledValue, value_of}
-use Rattle.tz_posix.specs.Parses.{IsInRange, IsParsed}
-use Rattle.tz_posix.specs.PosixShown.{posix_of}
-use Rattle.tz_posix.specs.Ranges.{posix_range}
-use Rattle.tz_posix.specs.Resolved.{resolved}
-use Rattle.tz_posix.specs.Spells.{Spells}
-use Rattle.tz_posix.specs.Values.{TzValue}
-use Rattle.tz_posix.specs.declared.error.ParseError.{ParseError}
-use Rattle.tz_posix.specs.declared.error.ParseError.TheVariants.{Grammar, UnknownName, Range}
-use Rattle.tz_posix.specs.declared.posix.PosixTz.{PosixTz}
+use Rattle.tz_posix.specs.{Agreement.{RuledValue, value_of}, Parses.{IsInRange, IsParsed}, PosixShown.{posix_of}, Ranges.{posix_range}, Resolved.{resolved}, Spells.{Spells}, Values.{TzValue}, declared.error.ParseError.{ParseError}}
+use Rattle.tz_posix.specs.declared.{error.ParseError.TheVariants.{Grammar, UnknownName, Range}, posix.PosixTz.{PosixTz}}
 
 module _ (text : List ℕ) (zones : List FixedTimespanSet) (q : RuledValue) (one : (t : List ℕ) (x y : TzValue) → Spells t x → Spells t y → x ≡ y) (is : IsInRange text (value_of q)) where
   -- it is parsed as what the value stands for

@@ -1,16 +1,10 @@
 //! Zones of two yearly rules beside the strings that say the same.
-ghost use Rattle.std.specs.Prelude.{◌≡◌, ◌∷◌, [], IfOk, IfErr, Ok, Some, is_some, true};
-ghost use Rattle.std.specs.FinMap.{get};
-ghost use Rattle.civil_base.specs.DateTimes.{instant};
-ghost use Rattle.civil_base.specs.Instants.{seconds_of};
-ghost use Rattle.zone_spans.specs.Compiled.{compiled};
-ghost use Rattle.zone_spans.specs.Lines.{Rulesets};
-ghost use Rattle.zone_table.specs.BoundedTables.{IsBoundedTable};
-ghost use Rattle.zone_table.specs.Resolved.{resolved_in};
-ghost use Rattle.tz_lookup.specs.Compiles.{compiled_in, spans_of, IsZoneFault};
-ghost use Rattle.tz_lookup.specs.Sets.{schedule_of, IsAccepted};
-ghost use Rattle.tz_posix.specs.Agreement.{IsCovered, RuledValue, SaysTheSame, TwoRuleZone, value_of};
-ghost use Rattle.tz_posix.specs.Parses.{IsInRange};
+ghost use Rattle.std.specs.{Prelude.{◌≡◌, ◌∷◌, [], IfOk, IfErr, Ok, Some, is_some, true}, FinMap.{get}};
+ghost use Rattle.civil_base.specs.{DateTimes.{instant}, Instants.{seconds_of}};
+ghost use Rattle.zone_spans.specs.{Compiled.{compiled}, Lines.{Rulesets}};
+ghost use Rattle.zone_table.specs.{BoundedTables.{IsBoundedTable}, Resolved.{resolved_in}};
+ghost use Rattle.tz_lookup.specs.{Compiles.{compiled_in, spans_of, IsZoneFault}, Sets.{schedule_of, IsAccepted}};
+ghost use Rattle.tz_posix.specs.{Agreement.{IsCovered, RuledValue, SaysTheSame, TwoRuleZone, value_of}, Parses.{IsInRange}};
 
 use crate::checks::holds;
 use crate::fixtures::{at, database_of, table_of};

@@ -1,24 +1,10 @@
 -- What a set that repeats answers for a date-time brought back is what it shows for ever.
 use Rattle.std.proofs.Common.{◌≡◌, List, [], ◌∷◌, map, take, length, ◌≤◌, ℤ, pos, int_lt, sym, ap, ◌∙◌, subst}
-use Rattle.civil_base.specs.DateTimes.{instant, local_of, offset_of}
-use Rattle.civil_base.specs.Instants.{instant_at}
-use Rattle.civil_base.specs.Ranges.{IsOffset}
-use Rattle.civil_base.specs.declared.offset_date_time.OffsetDateTime.{OffsetDateTime}
+use Rattle.civil_base.specs.{DateTimes.{instant, local_of, offset_of}, Instants.{instant_at}, Ranges.{IsOffset}, declared.offset_date_time.OffsetDateTime.{OffsetDateTime}}
 use Rattle.zone_spans.specs.Schedules.{instants, total_at}
-use Rattle.tz_zone.specs.Answers.{EachOf, listed}
-use Rattle.tz_zone.specs.Cursors.{cursor_left}
-use Rattle.tz_zone.specs.InForce.{GivesAt, all_in_force, shown_of, totals_at}
-use Rattle.tz_zone.specs.Sets.{schedule_of}
-use Rattle.tz_zone.specs.Zones.{IsGivenFor, span_shown, total_shown}
-use Rattle.tz_zone.specs.declared.time_zone.SpanCursor.{SpanCursor}
-use Rattle.tz_zone.specs.declared.time_zone.OffsetResult.{OffsetResult}
-use Rattle.tz_zone.specs.declared.time_zone.OffsetResult.TheVariants.{Some, Ambiguous, None}
-use Rattle.tz_zone.specs.declared.set.FixedTimespanSet.{FixedTimespanSet}
-use Rattle.tz_zone.specs.declared.tz.TzOffset.{TzOffset}
-use Rattle.tz_ever.specs.Ever.{GivesEver, IsRepeating, ever_left, ever_total}
-use Rattle.tz_ever.specs.Seam.{brought_back}
-use Rattle.tz_ever.proofs.NearLemmas.{near_gives, near_total}
-use Rattle.tz_ever.proofs.TotalLemmas.{AgreeNear, all_moved, same_count, same_totals}
+use Rattle.tz_zone.specs.{Answers.{EachOf, listed}, Cursors.{cursor_left}, InForce.{GivesAt, all_in_force, shown_of, totals_at}, Sets.{schedule_of}, Zones.{IsGivenFor, span_shown, total_shown}, declared.time_zone.SpanCursor.{SpanCursor}}
+use Rattle.tz_zone.specs.declared.{time_zone.OffsetResult.{OffsetResult}, time_zone.OffsetResult.TheVariants.{Some, Ambiguous, None}, set.FixedTimespanSet.{FixedTimespanSet}, tz.TzOffset.{TzOffset}}
+use Rattle.tz_ever.{specs.Ever.{GivesEver, IsRepeating, ever_left, ever_total}, specs.Seam.{brought_back}, proofs.NearLemmas.{near_gives, near_total}, proofs.TotalLemmas.{AgreeNear, all_moved, same_count, same_totals}}
 
 agree : (set : FixedTimespanSet) (x : ℤ) → IsRepeating set
     → AgreeNear (ever_total set) x (total_at (schedule_of set)) (brought_back x)

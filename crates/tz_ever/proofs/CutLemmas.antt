@@ -2,15 +2,9 @@
 use Rattle.std.proofs.Common.{◌≡◌, ℕ, zero, suc, if◌then◌else◌, List, [], ◌∷◌, map, ℤ, pos, refl, ap, ◌∙◌, arith, slice_index_or}
 use Rattle.basics.specs.ComparisonLaws.{le_fail, le_pass}
 use Rattle.civil_base.specs.Instants.{seconds_of}
-use Rattle.zone_spans.specs.Entries.{Entry}
-use Rattle.zone_spans.specs.declared.span.FixedTimespan.{FixedTimespan}
+use Rattle.zone_spans.specs.{Entries.{Entry}, declared.span.FixedTimespan.{FixedTimespan}}
 use Rattle.tz_ever.specs.InForce.{span_at, span_by}
-use Rattle.tz_zone.specs.Compiles.{spans_of}
-use Rattle.tz_zone.specs.InForce.{IsInForce}
-use Rattle.tz_zone.specs.SecondLaws.{same_test}
-use Rattle.tz_zone.specs.Sets.{shift_of, span_in}
-use Rattle.tz_zone.specs.Spans.{IsCut}
-use Rattle.tz_zone.specs.declared.set.FixedTimespanSet.{FixedTimespanSet}
+use Rattle.tz_zone.specs.{Compiles.{spans_of}, InForce.{IsInForce}, SecondLaws.{same_test}, Sets.{shift_of, span_in}, Spans.{IsCut}, declared.set.FixedTimespanSet.{FixedTimespanSet}}
 
 -- span k of the entries behind a first span
 abbrev numbered : FixedTimespan → FixedTimespan → List Entry → ℕ → FixedTimespan

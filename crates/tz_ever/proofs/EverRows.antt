@@ -1,45 +1,19 @@
 -- The zone of New York's last line in years far off, by what Python's zoneinfo says of America/New_York.
-use Rattle.std.proofs.Common.{◌≡◌, refl, [], ◌∷◌, map, take, drop, true, false, pos, List, codes, ℤ, ◌+ℤ◌, ◌-ℤ◌, ◌*ℤ◌, Bool, ℕ, ◌*◌, Some, None, Result, Ok, Err, is_ok}
-use Rattle.std.specs.Ordering.{int_eq}
-use Rattle.basics.specs.Dates.{last_with}
-use Rattle.basics.specs.Days.{days_after_zero, year_start, days_through, days_into_year, day, is_leap, days_in_year, days_in_month}
-use Rattle.basics.specs.Weekdays.{weekday_of}
+use Rattle.std.{proofs.Common.{◌≡◌, refl, [], ◌∷◌, map, take, drop, true, false, pos, List, codes, ℤ, ◌+ℤ◌, ◌-ℤ◌, ◌*ℤ◌, Bool, ℕ, ◌*◌, Some, None, Result, Ok, Err, is_ok}, specs.Ordering.{int_eq}}
+use Rattle.basics.specs.{Dates.{last_with}, Days.{days_after_zero, year_start, days_through, days_into_year, day, is_leap, days_in_year, days_in_month}, Weekdays.{weekday_of}}
 use Rattle.civil_base.specs.Instants.{instant_at}
-use Rattle.zone_values.specs.Days.{named_day, first_from, is_in_year}
-use Rattle.zone_values.specs.declared.day.DaySpec.TheVariants.{FirstOnOrAfter}
-use Rattle.zone_values.specs.declared.month.Month.{Month}
-use Rattle.zone_values.specs.declared.month.Month.TheVariants.{March, November}
-use Rattle.zone_values.specs.declared.time.TimeType.TheVariants.{Wall}
-use Rattle.zone_values.specs.declared.weekday.Weekday.TheVariants.{Sunday}
-use Rattle.zone_values.specs.declared.year.Year.TheVariants.{Maximum, Number}
-use Rattle.zone_table.specs.Formats.{abbreviation, filled}
-use Rattle.zone_table.specs.Moments.{applies_to_year, instant_of, last_year, moment}
-use Rattle.zone_table.specs.declared.zone.Format.TheVariants.{Placeholder}
-use Rattle.zone_table.specs.declared.rule.RuleInfo.{RuleInfo}
-use Rattle.zone_table.specs.declared.zone.Saving.TheVariants.{Multiple}
+use Rattle.zone_values.specs.{Days.{named_day, first_from, is_in_year}, declared.day.DaySpec.TheVariants.{FirstOnOrAfter}, declared.month.Month.{Month}, declared.month.Month.TheVariants.{March, November}, declared.time.TimeType.TheVariants.{Wall}}
+use Rattle.zone_values.specs.declared.{weekday.Weekday.TheVariants.{Sunday}, year.Year.TheVariants.{Maximum, Number}}
+use Rattle.zone_table.specs.{Formats.{abbreviation, filled}, Moments.{applies_to_year, instant_of, last_year, moment}, declared.zone.Format.TheVariants.{Placeholder}, declared.rule.RuleInfo.{RuleInfo}, declared.zone.Saving.TheVariants.{Multiple}}
 use Rattle.zone_table.specs.declared.zone.ZoneInfo.{ZoneInfo}
-use Rattle.zone_spans.specs.Bounds.{is_bounded_line}
-use Rattle.zone_spans.specs.Collapse.{kept_of, kept_with, collapsed, without_first}
-use Rattle.zone_spans.specs.Compiled.{compiled, compiled_over, set_of_lines_over}
-use Rattle.zone_spans.specs.Entries.{Entry, first_span, entries_from_over, entries_of_over, next_start_over, sorted_entries_over}
-use Rattle.zone_spans.specs.Faults.{is_outside, some_year, leaves_year_over, schedule_fault_over}
-use Rattle.zone_spans.specs.Firings.{earliest, fired, year_firings, firings_of_years, line_firings_over, years_over}
-use Rattle.zone_spans.specs.Lines.{Rulesets, zone_lines}
-use Rattle.zone_spans.specs.Listing.{listed_from, start_firing}
-use Rattle.zone_spans.specs.Schedules.{totals_of, total_at}
-use Rattle.zone_spans.specs.Windows.{line_end}
-use Rattle.zone_spans.specs.declared.fault.SpanFault.{SpanFault}
-use Rattle.zone_spans.specs.declared.span.FixedTimespan.{FixedTimespan}
-use Rattle.zone_spans.specs.declared.span.FixedTimespanSet as spans
-use Rattle.zone_spans.specs.GoesOn.{GoesOn, dont_fall, front_of, goes_on, is_in_order, last_goes_on, last_of, turns}
-use Rattle.tz_ever.specs.InForce.{span_by}
-use Rattle.zone_spans.specs.Later.{firings_from, start_after}
+use Rattle.zone_spans.specs.{Bounds.{is_bounded_line}, Collapse.{kept_of, kept_with, collapsed, without_first}, Compiled.{compiled, compiled_over, set_of_lines_over}}
+use Rattle.zone_spans.specs.{Entries.{Entry, first_span, entries_from_over, entries_of_over, next_start_over, sorted_entries_over}, Faults.{is_outside, some_year, leaves_year_over, schedule_fault_over}}
+use Rattle.zone_spans.specs.{Firings.{earliest, fired, year_firings, firings_of_years, line_firings_over, years_over}, Lines.{Rulesets, zone_lines}, Listing.{listed_from, start_firing}, Schedules.{totals_of, total_at}, Windows.{line_end}}
+use Rattle.zone_spans.specs.{declared.fault.SpanFault.{SpanFault}, declared.span.FixedTimespan.{FixedTimespan}, GoesOn.{GoesOn, dont_fall, front_of, goes_on, is_in_order, last_goes_on, last_of, turns}, Later.{firings_from, start_after}}
 use Rattle.zone_spans.specs.Settled.{is_lasting, is_settled}
+use Rattle.zone_spans.specs.declared.span.FixedTimespanSet as spans
+use Rattle.tz_ever.specs.{InForce.{span_by}, Ever.{ever_span, ever_total}, ForEver.{IsForEver, ever_years}, Seam.{brought_back, cycles_past, next_seam, seam}, Unrolled.{again, entries_before, entries_from, unrolled_entries}}
 use Rattle.tz_zone.specs.declared.set.FixedTimespanSet.{FixedTimespanSet}
-use Rattle.tz_ever.specs.Ever.{ever_span, ever_total}
-use Rattle.tz_ever.specs.ForEver.{IsForEver, ever_years}
-use Rattle.tz_ever.specs.Seam.{brought_back, cycles_past, next_seam, seam}
-use Rattle.tz_ever.specs.Unrolled.{again, entries_before, entries_from, unrolled_entries}
 
 -- ---- the seam and its cycles: 2501-12-31 24:00 is 2102-01-01, and so is that of 2901; before it nothing moves
 brought : map brought_back (

@@ -1,31 +1,14 @@
 -- The set of a zone's spans over 704 years says all that the zone shows for ever.
-use Rattle.std.proofs.Common.{◌≡◌, ℕ, zero, suc, ◌+◌, ◌*◌, ◌≤◌, List, true, Some, Ok, ℤ, pos, ◌+ℤ◌, ◌-ℤ◌, ◌*ℤ◌, ◌<ℤ◌, refl, sym, ap, ◌∙◌, subst, arith}
-use Rattle.std.specs.List.{list_all}
-use Rattle.std.specs.Option.{option_map_or}
-use Rattle.basics.specs.Days.{day}
-use Rattle.basics.specs.MonthLaws.{days_through-two}
-use Rattle.basics.specs.SignedLaws.{signed}
-use Rattle.basics.specs.YearLaws.{day-cycle}
+use Rattle.std.{proofs.Common.{◌≡◌, ℕ, zero, suc, ◌+◌, ◌*◌, ◌≤◌, List, true, Some, Ok, ℤ, pos, ◌+ℤ◌, ◌-ℤ◌, ◌*ℤ◌, ◌<ℤ◌, refl, sym, ap, ◌∙◌, subst, arith}, specs.List.{list_all}, specs.Option.{option_map_or}}
+use Rattle.basics.specs.{Days.{day}, MonthLaws.{days_through-two}, SignedLaws.{signed}, YearLaws.{day-cycle}}
 use Rattle.zone_table.specs.declared.zone.ZoneInfo.{ZoneInfo}
-use Rattle.zone_spans.specs.Bounds.{is_bounded_line}
-use Rattle.zone_spans.specs.Compiled.{compiled, compiled_over}
-use Rattle.zone_spans.specs.Entries.{total}
-use Rattle.zone_spans.specs.Lines.{Rulesets, zone_lines}
-use Rattle.zone_spans.specs.Schedules.{is_in_offset_range, schedule_over, total_at, totals_of}
-use Rattle.zone_spans.specs.Years.{earliest_year}
-use Rattle.zone_spans.specs.declared.span.FixedTimespan.{FixedTimespan}
+use Rattle.zone_spans.specs.{Bounds.{is_bounded_line}, Compiled.{compiled, compiled_over}, Entries.{total}, Lines.{Rulesets, zone_lines}, Schedules.{is_in_offset_range, schedule_over, total_at, totals_of}, Years.{earliest_year}}
+use Rattle.zone_spans.specs.{declared.span.FixedTimespan.{FixedTimespan}, Cycle.{instant_on}, GoesOn.{GoesOn}}
 use Rattle.zone_spans.specs.declared.span.FixedTimespanSet as spans
-use Rattle.zone_spans.specs.Cycle.{instant_on}
-use Rattle.tz_ever.specs.AnyYear.{AreEnough, IsFrom2101, instants_on, span_for_ever, span_told, total_for_ever}
-use Rattle.zone_spans.specs.GoesOn.{GoesOn}
-use Rattle.tz_ever.specs.InForce.{span_at}
-use Rattle.tz_zone.specs.Compiles.{spans_of}
-use Rattle.tz_zone.specs.declared.set.FixedTimespanSet.{FixedTimespanSet}
-use Rattle.tz_ever.specs.Ever.{IsRepeating, ever_span, ever_total}
-use Rattle.tz_ever.specs.ForEver.{IsForEver, ever_years}
-use Rattle.tz_ever.specs.Seam.{cycles_past}
-use Rattle.tz_ever.proofs.NearLemmas.{ever_total-is}
+use Rattle.tz_ever.specs.{AnyYear.{AreEnough, IsFrom2101, instants_on, span_for_ever, span_told, total_for_ever}, InForce.{span_at}, Ever.{IsRepeating, ever_span, ever_total}, ForEver.{IsForEver, ever_years}, Seam.{cycles_past}}
 use Rattle.tz_ever.specs.SeamLaws.{ArePast, back_by, cycles_past-are}
+use Rattle.tz_ever.proofs.NearLemmas.{ever_total-is}
+use Rattle.tz_zone.specs.{Compiles.{spans_of}, declared.set.FixedTimespanSet.{FixedTimespanSet}}
 
 -- ---- the laws of a zone that goes on
 abbrev pub EnoughLaw : Type 0

@@ -1,24 +1,11 @@
 -- An instant within 26 hours of a local time shows what it shows within 26 hours of that local time brought back.
 use Rattle.std.proofs.Common.{◌≡◌, ℕ, zero, suc, ◌*◌, ◌≤◌, ◌⊎◌, inl, inr, ℤ, pos, ◌+ℤ◌, ◌-ℤ◌, ◌<ℤ◌, refl, sym, ap, ◌∙◌, subst, arith, Bool, List, int_lt}
 use Rattle.basics.specs.SignedLaws.{signed}
-use Rattle.civil_base.specs.Instants.{instant_at}
-use Rattle.civil_base.specs.RangeLaws.{offset_greatest, offset_least}
-use Rattle.civil_base.specs.Ranges.{IsOffset}
-use Rattle.zone_spans.specs.Entries.{total}
-use Rattle.zone_spans.specs.Schedules.{total_at}
-use Rattle.zone_spans.specs.declared.span.FixedTimespan.{FixedTimespan}
-use Rattle.zone_spans.specs.Cycle.{instant_on}
-use Rattle.tz_ever.specs.InForce.{span_at}
-use Rattle.tz_ever.specs.InForceLaws.{total_at-is}
-use Rattle.tz_zone.specs.CompileLaws.{totals_same}
-use Rattle.tz_zone.specs.Compiles.{spans_of}
-use Rattle.tz_zone.specs.InForce.{GivesAt}
-use Rattle.tz_zone.specs.Sets.{schedule_of}
-use Rattle.tz_zone.specs.declared.set.FixedTimespanSet.{FixedTimespanSet}
-use Rattle.tz_ever.specs.Ever.{GivesEver, IsRepeating, ever_span, ever_total}
-use Rattle.tz_ever.specs.Seam.{IsAtSeam, brought_back, cycles_past}
+use Rattle.civil_base.specs.{Instants.{instant_at}, RangeLaws.{offset_greatest, offset_least}, Ranges.{IsOffset}}
+use Rattle.zone_spans.specs.{Entries.{total}, Schedules.{total_at}, declared.span.FixedTimespan.{FixedTimespan}, Cycle.{instant_on}}
+use Rattle.tz_ever.specs.{InForce.{span_at}, InForceLaws.{total_at-is}, Ever.{GivesEver, IsRepeating, ever_span, ever_total}, Seam.{IsAtSeam, brought_back, cycles_past}, SeamLaws.{ArePast, back_by, cycles_past-are}}
 use Rattle.tz_ever.proofs.CutLemmas.{in_force-is}
-use Rattle.tz_ever.specs.SeamLaws.{ArePast, back_by, cycles_past-are}
+use Rattle.tz_zone.specs.{CompileLaws.{totals_same}, Compiles.{spans_of}, InForce.{GivesAt}, Sets.{schedule_of}, declared.set.FixedTimespanSet.{FixedTimespanSet}}
 
 -- ---- numbers of cycles a cycle apart at most
 abbrev OneApart : ℕ → ℕ → Type 0

@@ -1,30 +1,15 @@
 -- What a name finds for ever, step by step.
-use Rattle.std.proofs.Common.{◌≡◌, ℕ, ◌*ℤ◌, ◌<ℤ◌, List, Option, Some, None, option_map, Result, Ok, Err, true, false, ℤ, pos, IsTrue, refl, sym, ap, ◌∙◌, arith}
-use Rattle.std.specs.FinMap.{get}
-use Rattle.std.specs.List.{list_all}
+use Rattle.std.{proofs.Common.{◌≡◌, ℕ, ◌*ℤ◌, ◌<ℤ◌, List, Option, Some, None, option_map, Result, Ok, Err, true, false, ℤ, pos, IsTrue, refl, sym, ap, ◌∙◌, arith}, specs.FinMap.{get}, specs.List.{list_all}}
 use Rattle.basics.specs.SignedLaws.{signed}
-use Rattle.zone_table.specs.Resolved.{resolved_in}
-use Rattle.zone_table.specs.declared.table.Table.{Table}
-use Rattle.zone_table.specs.declared.zone.ZoneInfo.{ZoneInfo}
-use Rattle.zone_spans.specs.Bounds.{is_bounded_line}
-use Rattle.zone_spans.specs.Compiled.{compiled, compiled_over}
-use Rattle.zone_spans.specs.GoesOn.{GoesOn, TellsGoing, goes_on}
-use Rattle.zone_spans.specs.Lines.{Rulesets, zone_lines}
-use Rattle.zone_spans.specs.Schedules.{is_in_offset_range, total_at, totals_of}
-use Rattle.zone_spans.specs.declared.fault.SpanFault.{SpanFault}
+use Rattle.zone_table.specs.{Resolved.{resolved_in}, declared.table.Table.{Table}, declared.zone.ZoneInfo.{ZoneInfo}}
+use Rattle.zone_spans.specs.{Bounds.{is_bounded_line}, Compiled.{compiled, compiled_over}, GoesOn.{GoesOn, TellsGoing, goes_on}, Lines.{Rulesets, zone_lines}, Schedules.{is_in_offset_range, total_at, totals_of}, declared.fault.SpanFault.{SpanFault}}
 use Rattle.zone_spans.specs.declared.span.FixedTimespan.{FixedTimespan}
 use Rattle.zone_spans.specs.declared.span.FixedTimespanSet as spans
-use Rattle.tz_ever.specs.AnyYear.{is_before_cycle, span_for_ever, span_told, total_for_ever}
-use Rattle.tz_ever.specs.InForce.{span_at}
-use Rattle.tz_zone.specs.Compiles.{IsCompiledAs, IsZoneFault, compiled_in, compiled_in_over, spans_of}
-use Rattle.tz_zone.specs.Sets.{schedule_of}
-use Rattle.tz_zone.specs.declared.compile.ZoneFault.{ZoneFault}
-use Rattle.tz_zone.specs.declared.compile.ZoneFault.TheVariants as zone_fault
-use Rattle.tz_zone.specs.declared.set.FixedTimespanSet.{FixedTimespanSet}
-use Rattle.tz_ever.specs.Ever.{ever_span, ever_total}
-use Rattle.tz_ever.specs.ForEver.{IsForEver, ever_years}
+use Rattle.tz_ever.specs.{AnyYear.{is_before_cycle, span_for_ever, span_told, total_for_ever}, InForce.{span_at}, Ever.{ever_span, ever_total}, ForEver.{IsForEver, ever_years}}
 use Rattle.tz_ever.specs.Opens.{DoesNotGoOn, IsEverFault, IsFoundForEver, IsGoing, IsLater, IsZoneToday, fault_later}
 use Rattle.tz_ever.proofs.ForEverLemmas.{EnoughLaw, are_enough}
+use Rattle.tz_zone.specs.{Compiles.{IsCompiledAs, IsZoneFault, compiled_in, compiled_in_over, spans_of}, Sets.{schedule_of}, declared.compile.ZoneFault.{ZoneFault}, declared.set.FixedTimespanSet.{FixedTimespanSet}}
+use Rattle.tz_zone.specs.declared.compile.ZoneFault.TheVariants as zone_fault
 
 same_some : {X : Type 0} (a b : X) → Some a ≡ Some b → a ≡ b
 same_some a b e = cc

@@ -1,12 +1,8 @@
 -- Days and times of day, brought back by whole cycles.
 use Rattle.std.proofs.Common.{◌≡◌, arith, ℕ, ◌+◌, ◌*◌, ◌/◌, ◌%◌, ◌<◌, ℤ, pos, ◌+ℤ◌, ◌-ℤ◌, ◌*ℤ◌, ◌≤ℤ◌, ◌<ℤ◌, int_lt, Bool, true, false, not, refl, sym, ap, ◌∙◌}
-use Rattle.basics.specs.ComparisonLaws.{lt_from_fail, lt_from_pass, lt_pass}
-use Rattle.basics.specs.SignedLaws.{signed}
-use Rattle.civil_base.specs.Clock.{nanos_per_day}
-use Rattle.civil_base.specs.Layout.{day_part, time_part}
-use Rattle.civil_base.specs.PartLaws.{parts-joined, time_part-inside}
-use Rattle.tz_ever.specs.Seam.{brought_back, cycles_past, next_seam, next_seam_day, seam_day}
-use Rattle.tz_ever.specs.SeamLaws.{ArePast, back_by, back_is, cycles_past-are}
+use Rattle.basics.specs.{ComparisonLaws.{lt_from_fail, lt_from_pass, lt_pass}, SignedLaws.{signed}}
+use Rattle.civil_base.specs.{Clock.{nanos_per_day}, Layout.{day_part, time_part}, PartLaws.{parts-joined, time_part-inside}}
+use Rattle.tz_ever.specs.{Seam.{brought_back, cycles_past, next_seam, next_seam_day, seam_day}, SeamLaws.{ArePast, back_by, back_is, cycles_past-are}}
 
 -- ---- days
 by_parts : (d : ℤ) (q r : ℕ) → d -ℤ seam_day ≡ pos (q * 146097 + r) → r < 146097

@@ -3,13 +3,8 @@ use Rattle.std.proofs.Common.{◌≡◌, ℕ, ◌*◌, ℤ, pos, ◌-ℤ◌, sym
 use Rattle.basics.specs.SignedLaws.{signed}
 use Rattle.civil_base.specs.Instants.{nanos_of, seconds_of}
 use Rattle.zone_spans.specs.Schedules.{Schedule, total_at}
-use Rattle.tz_zone.specs.SecondLaws.{IsSecond, one_second, second_is, total_is}
-use Rattle.tz_zone.specs.Sets.{schedule_of}
-use Rattle.tz_zone.specs.Spans.{total_from}
-use Rattle.tz_zone.specs.declared.set.FixedTimespanSet.{FixedTimespanSet}
-use Rattle.tz_ever.specs.Ever.{ever_total}
-use Rattle.tz_ever.specs.Seam.{cycles_past}
-use Rattle.tz_ever.specs.SeamLaws.{ArePast, back_by, cycles_past-are}
+use Rattle.tz_zone.specs.{SecondLaws.{IsSecond, one_second, second_is, total_is}, Sets.{schedule_of}, Spans.{total_from}, declared.set.FixedTimespanSet.{FixedTimespanSet}}
+use Rattle.tz_ever.specs.{Ever.{ever_total}, Seam.{cycles_past}, SeamLaws.{ArePast, back_by, cycles_past-are}}
 
 begins_at : (s : ℤ) → IsSecond (nanos_of s) s
 begins_at s = record { low = omega (arith, signed); high = omega (arith, signed) }

@@ -1,20 +1,11 @@
 -- Where an entry of a table for ever lies in its set.
-use Rattle.std.proofs.Common.{◌≡◌, ℕ, zero, suc, ◌+◌, ◌-◌, ◌*◌, ◌/◌, ◌%◌, ◌<◌, ◌≤◌, true, false, cond, List, [], ◌∷◌, ◌++◌, length, map, get_or, ℤ, pos, ◌+ℤ◌, ◌≤ℤ◌, ◌<ℤ◌, int_lt, refl, sym, ap, ◌∙◌, subst, arith, inl, inr}
-use Rattle.std.proofs.Math.ListN.{get_or-append}
-use Rattle.std.proofs.Math.Nat.{div-add-mod', mul-le-mul_right}
-use Rattle.std.proofs.lemmas.Bool.{cases_Bool, cases_lt}
-use Rattle.std.proofs.lemmas.List.{get_or-append-add, get_or-map, length-append, length-map}
-use Rattle.basics.specs.ComparisonLaws.{lt_pass, lt_from_fail, lt_fail}
-use Rattle.basics.specs.SignedLaws.{signed}
-use Rattle.zone_spans.specs.Cycle.{entry_on}
-use Rattle.zone_spans.specs.Entries.{Entry}
-use Rattle.tz_zone.specs.Sets.{IsAccepted, IsSpanTime, schedule_of, shift_of, shifts_of, span_in}
-use Rattle.tz_zone.specs.Spans.{Shift, shift_at}
-use Rattle.tz_zone.specs.declared.set.FixedTimespanSet.{FixedTimespanSet}
-use Rattle.tz_ever.specs.Places.{IsPlace, entry_later}
-use Rattle.tz_ever.specs.Unrolled.{again, entries_before, entries_from, next_seam_second, seam_second, unrolled, unrolled_entries}
-use Rattle.tz_ever.proofs.UnrolledLemmas.{Climb, above_all, before_step}
-use Rattle.tz_ever.proofs.UnrolledShows.{cycle_cut, kept_cut, least, past_greatest}
+use Rattle.std.proofs.{Common.{◌≡◌, ℕ, zero, suc, ◌+◌, ◌-◌, ◌*◌, ◌/◌, ◌%◌, ◌<◌, ◌≤◌, true, false, cond, List, [], ◌∷◌, ◌++◌, length, map, get_or, ℤ, pos, ◌+ℤ◌, ◌≤ℤ◌, ◌<ℤ◌, int_lt, refl, sym, ap, ◌∙◌, subst, arith, inl, inr}, Math.ListN.{get_or-append}}
+use Rattle.std.proofs.{Math.Nat.{div-add-mod', mul-le-mul_right}, lemmas.Bool.{cases_Bool, cases_lt}, lemmas.List.{get_or-append-add, get_or-map, length-append, length-map}}
+use Rattle.basics.specs.{ComparisonLaws.{lt_pass, lt_from_fail, lt_fail}, SignedLaws.{signed}}
+use Rattle.zone_spans.specs.{Cycle.{entry_on}, Entries.{Entry}}
+use Rattle.tz_zone.specs.{Sets.{IsAccepted, IsSpanTime, schedule_of, shift_of, shifts_of, span_in}, Spans.{Shift, shift_at}, declared.set.FixedTimespanSet.{FixedTimespanSet}}
+use Rattle.tz_ever.specs.{Places.{IsPlace, entry_later}, Unrolled.{again, entries_before, entries_from, next_seam_second, seam_second, unrolled, unrolled_entries}}
+use Rattle.tz_ever.proofs.{UnrolledLemmas.{Climb, above_all, before_step}, UnrolledShows.{cycle_cut, kept_cut, least, past_greatest}}
 
 pub shift_read : (es : List Entry) (k : ℕ) (d : Entry) → k < length es → shift_at (map shift_of es) k ≡ shift_of (get_or es k d)
 shift_read es k d l = get_or-map shift_of es k d (pos 0, pos 0) l

@@ -1,18 +1,9 @@
 -- The totals at the instants of a local time, where two functions agree on all instants near it.
-use Rattle.std.proofs.Common.{◌≡◌, ℕ, zero, suc, Bool, true, false, cond, List, [], ◌∷◌, length, map, ℤ, pos, neg_ℤ, ◌-ℤ◌, ◌≤ℤ◌, refl, sym, ap, ◌∙◌, arith}
-use Rattle.std.specs.List.{filter}
-use Rattle.std.specs.Ordering.{int_eq}
-use Rattle.std.proofs.lemmas.List.{length-map}
-use Rattle.basics.specs.ComparisonLaws.{eq_from_pass}
-use Rattle.basics.specs.SignedLaws.{one_sided, signed}
-use Rattle.civil_base.specs.DateTimes.{at_offset, offset_of}
-use Rattle.civil_base.specs.Instants.{instant_at}
-use Rattle.civil_base.specs.RangeLaws.{offset_by_size}
-use Rattle.civil_base.specs.Ranges.{IsOffset, greatest_offset}
-use Rattle.civil_base.specs.declared.offset_date_time.OffsetDateTime.{OffsetDateTime}
+use Rattle.std.{proofs.Common.{◌≡◌, ℕ, zero, suc, Bool, true, false, cond, List, [], ◌∷◌, length, map, ℤ, pos, neg_ℤ, ◌-ℤ◌, ◌≤ℤ◌, refl, sym, ap, ◌∙◌, arith}, specs.List.{filter}, specs.Ordering.{int_eq}, proofs.lemmas.List.{length-map}}
+use Rattle.basics.specs.{ComparisonLaws.{eq_from_pass}, SignedLaws.{one_sided, signed}}
+use Rattle.civil_base.specs.{DateTimes.{at_offset, offset_of}, Instants.{instant_at}, RangeLaws.{offset_by_size}, Ranges.{IsOffset, greatest_offset}, declared.offset_date_time.OffsetDateTime.{OffsetDateTime}}
 use Rattle.zone_spans.specs.Schedules.{down_from, instants, offset_count, offsets}
-use Rattle.tz_zone.specs.InForce.{all_in_force, in_force, shown_of, totals_at}
-use Rattle.tz_zone.specs.InForceLaws.{shown_at_offset}
+use Rattle.tz_zone.specs.{InForce.{all_in_force, in_force, shown_of, totals_at}, InForceLaws.{shown_at_offset}}
 
 -- an offset is that of the instant that it gives
 abbrev reads : (ℤ → ℤ) → ℤ → ℤ → Bool

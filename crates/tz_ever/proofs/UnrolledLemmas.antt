@@ -1,14 +1,8 @@
 -- Entries that climb from one second to another, cut at a second, and repeated a cycle later each time.
-use Rattle.std.proofs.Common.{◌≡◌, ℕ, zero, suc, ◌*◌, ◌<◌, true, false, cond, List, [], ◌∷◌, ◌++◌, map, ℤ, pos, ◌+ℤ◌, ◌-ℤ◌, ◌*ℤ◌, ◌≤ℤ◌, ◌<ℤ◌, int_le, int_lt, refl, sym, ap, ◌∙◌, subst, arith, inl, inr}
-use Rattle.std.proofs.lemmas.Bool.{cases_Bool}
-use Rattle.basics.specs.ComparisonLaws.{le_fail, le_from_lt, le_itself, le_le, le_pass, lt_fail, lt_from_fail, lt_from_pass}
-use Rattle.basics.specs.SignedLaws.{signed}
-use Rattle.zone_spans.specs.Cycle.{entry_on, instant_on, seconds_on}
-use Rattle.zone_spans.specs.Entries.{Entry}
-use Rattle.zone_spans.specs.declared.span.FixedTimespan.{FixedTimespan}
-use Rattle.tz_ever.specs.InForce.{span_by}
-use Rattle.tz_ever.specs.Unrolled.{again, entries_before, entries_from}
-use Rattle.tz_ever.proofs.cycle.SpanLemmas.{span_by-more, span_by-on}
+use Rattle.std.proofs.{Common.{◌≡◌, ℕ, zero, suc, ◌*◌, ◌<◌, true, false, cond, List, [], ◌∷◌, ◌++◌, map, ℤ, pos, ◌+ℤ◌, ◌-ℤ◌, ◌*ℤ◌, ◌≤ℤ◌, ◌<ℤ◌, int_le, int_lt, refl, sym, ap, ◌∙◌, subst, arith, inl, inr}, lemmas.Bool.{cases_Bool}}
+use Rattle.basics.specs.{ComparisonLaws.{le_fail, le_from_lt, le_itself, le_le, le_pass, lt_fail, lt_from_fail, lt_from_pass}, SignedLaws.{signed}}
+use Rattle.zone_spans.specs.{Cycle.{entry_on, instant_on, seconds_on}, Entries.{Entry}, declared.span.FixedTimespan.{FixedTimespan}}
+use Rattle.tz_ever.{specs.InForce.{span_by}, specs.Unrolled.{again, entries_before, entries_from}, proofs.cycle.SpanLemmas.{span_by-more, span_by-on}}
 
 -- none comes before the first second or before the one in front of it, and all before the other second
 abbrev pub Climb : ℤ → List Entry → ℤ → Type 0

@@ -1,28 +1,14 @@
 -- A set with the entries of 20 cycles more: it can be looked up, and shows what the set shows for ever.
 use Rattle.std.proofs.Common.{◌≡◌, ℕ, zero, suc, ◌*◌, ◌<◌, Bool, true, false, ◌&&◌, cond, List, [], ◌∷◌, ◌++◌, length, map, filter, ℤ, pos, neg_ℤ, ◌+ℤ◌, ◌-ℤ◌, ◌≤ℤ◌, ◌<ℤ◌, int_le, int_lt, refl, sym, ap, ◌∙◌, arith, inl, inr}
-use Rattle.std.specs.List.{list_all}
 use Rattle.std.proofs.lemmas.Bool.{and_parts, cases_Bool}
-use Rattle.basics.specs.ComparisonLaws.{le_from_lt, le_itself, le_le, lt_from_fail, lt_from_pass}
-use Rattle.basics.specs.SignedLaws.{signed}
-use Rattle.civil_base.specs.Instants.{instant_at}
-use Rattle.civil_base.specs.Ranges.{IsOffset, is_offset}
-use Rattle.zone_spans.specs.Cycle.{entry_on, instant_on}
-use Rattle.zone_spans.specs.Entries.{Entry, total}
-use Rattle.zone_spans.specs.Schedules.{total_at}
-use Rattle.zone_spans.specs.declared.span.FixedTimespan.{FixedTimespan}
-use Rattle.tz_zone.specs.Compiles.{spans_of}
-use Rattle.tz_zone.specs.InForce.{all_in_force}
-use Rattle.tz_zone.specs.Sets.{AreSpanTimes, IsAccepted, IsSpanTime, schedule_of, shift_of}
-use Rattle.tz_zone.specs.Spans.{Shift, TimesDontFall, shift_at}
-use Rattle.tz_zone.specs.declared.set.FixedTimespanSet.{FixedTimespanSet}
-use Rattle.tz_ever.specs.Ever.{IsRepeating, ever_span, ever_total}
-use Rattle.tz_ever.specs.InForce.{span_at, span_by}
-use Rattle.tz_ever.specs.Seam.{cycles_past, next_seam, seam}
-use Rattle.tz_ever.specs.Unrolled.{again, entries_before, entries_from, next_seam_second, seam_second, unrolled, unrolled_end, unrolled_entries}
-use Rattle.tz_ever.proofs.NearLemmas.{ever_total-is, near_after, total_is}
+use Rattle.std.specs.List.{list_all}
+use Rattle.basics.specs.{ComparisonLaws.{le_from_lt, le_itself, le_le, lt_from_fail, lt_from_pass}, SignedLaws.{signed}}
+use Rattle.civil_base.specs.{Instants.{instant_at}, Ranges.{IsOffset, is_offset}}
+use Rattle.zone_spans.specs.{Cycle.{entry_on, instant_on}, Entries.{Entry, total}, Schedules.{total_at}, declared.span.FixedTimespan.{FixedTimespan}}
+use Rattle.tz_zone.specs.{Compiles.{spans_of}, InForce.{all_in_force}, Sets.{AreSpanTimes, IsAccepted, IsSpanTime, schedule_of, shift_of}, Spans.{Shift, TimesDontFall, shift_at}, declared.set.FixedTimespanSet.{FixedTimespanSet}}
+use Rattle.tz_ever.specs.{Ever.{IsRepeating, ever_span, ever_total}, InForce.{span_at, span_by}, Seam.{cycles_past, next_seam, seam}, Unrolled.{again, entries_before, entries_from, next_seam_second, seam_second, unrolled, unrolled_end, unrolled_entries}}
 use Rattle.tz_ever.specs.SeamLaws.{ArePast, back_by, back_is, cycles_past-are}
-use Rattle.tz_ever.proofs.TotalLemmas.{same_in_force}
-use Rattle.tz_ever.proofs.UnrolledLemmas.{Climb, IsCutAt, Leaves, again_shows, all_come, climb_again, climb_higher, climb_join, cut_at, earlier, none_come}
+use Rattle.tz_ever.proofs.{NearLemmas.{ever_total-is, near_after, total_is}, TotalLemmas.{same_in_force}, UnrolledLemmas.{Climb, IsCutAt, Leaves, again_shows, all_come, climb_again, climb_higher, climb_join, cut_at, earlier, none_come}}
 use Rattle.tz_ever.proofs.cycle.SpanLemmas.{span_by-more}
 
 -- ---- times that don't fall climb

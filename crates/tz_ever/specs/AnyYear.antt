@@ -1,18 +1,9 @@
 -- What a zone shows at any instant: its lines are expanded over as many years as the instant asks for.
-use Rattle.std.specs.Prelude.{ℕ, zero, suc, ◌+◌, ◌*◌, ◌/◌, Bool, true, not, if◌then◌else◌, List, Option, Some, None, Result, Ok, Err, ℤ, pos, neg_ℤ, ◌+ℤ◌, ◌-ℤ◌, ◌*ℤ◌, ◌<ℤ◌, ◌≤ℤ◌, int_lt, unsigned_abs}
-use Rattle.std.specs.List.{list_all}
-use Rattle.std.specs.Option.{option_map_or}
+use Rattle.std.specs.{Prelude.{ℕ, zero, suc, ◌+◌, ◌*◌, ◌/◌, Bool, true, not, if◌then◌else◌, List, Option, Some, None, Result, Ok, Err, ℤ, pos, neg_ℤ, ◌+ℤ◌, ◌-ℤ◌, ◌*ℤ◌, ◌<ℤ◌, ◌≤ℤ◌, int_lt, unsigned_abs}, List.{list_all}, Option.{option_map_or}}
 use Rattle.basics.specs.Days.{day}
 use Rattle.zone_table.specs.declared.zone.ZoneInfo.{ZoneInfo}
-use Rattle.zone_spans.specs.Compiled.{compiled_over}
-use Rattle.zone_spans.specs.Lines.{Line, Rulesets}
-use Rattle.zone_spans.specs.Schedules.{total_at, schedule_over}
-use Rattle.zone_spans.specs.Years.{earliest_year}
-use Rattle.zone_spans.specs.declared.fault.SpanFault.{SpanFault}
-use Rattle.zone_spans.specs.declared.span.FixedTimespan.{FixedTimespan}
-use Rattle.zone_spans.specs.declared.span.FixedTimespanSet.{FixedTimespanSet}
-use Rattle.zone_spans.specs.Cycle.{instant_on}
-use Rattle.zone_spans.specs.GoesOn.{cycle_entries, last_of}
+use Rattle.zone_spans.specs.{Compiled.{compiled_over}, Lines.{Line, Rulesets}, Schedules.{total_at, schedule_over}, Years.{earliest_year}, declared.fault.SpanFault.{SpanFault}, declared.span.FixedTimespan.{FixedTimespan}}
+use Rattle.zone_spans.specs.{declared.span.FixedTimespanSet.{FixedTimespanSet}, Cycle.{instant_on}, GoesOn.{cycle_entries, last_of}}
 use Rattle.tz_ever.specs.InForce.{has_come, span_at}
 
 -- the whole cycles from 1699-01-01 00:00:00 UTC to an instant in nanoseconds, so none before 2099

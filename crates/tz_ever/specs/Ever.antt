@@ -1,17 +1,9 @@
 -- What a set of spans shows for ever, where the cycle stands for each later one.
 use Rattle.std.specs.Prelude.{◌≡◌, ℕ, Bool, List, map, ℤ, pos, int_lt}
-use Rattle.civil_base.specs.DateTimes.{at_offset, offset_of}
-use Rattle.civil_base.specs.declared.offset_date_time.OffsetDateTime.{OffsetDateTime}
-use Rattle.zone_spans.specs.Schedules.{total_at}
-use Rattle.zone_spans.specs.declared.span.FixedTimespan.{FixedTimespan}
-use Rattle.zone_spans.specs.Cycle.{instant_on}
-use Rattle.tz_ever.specs.InForce.{span_at}
-use Rattle.tz_zone.specs.Compiles.{spans_of}
-use Rattle.tz_zone.specs.Cursors.{cursor_left}
-use Rattle.tz_zone.specs.Sets.{schedule_of}
-use Rattle.tz_zone.specs.declared.time_zone.SpanCursor.{SpanCursor}
-use Rattle.tz_zone.specs.declared.set.FixedTimespanSet.{FixedTimespanSet}
-use Rattle.tz_ever.specs.Seam.{IsAtSeam, brought_back}
+use Rattle.civil_base.specs.{DateTimes.{at_offset, offset_of}, declared.offset_date_time.OffsetDateTime.{OffsetDateTime}}
+use Rattle.zone_spans.specs.{Schedules.{total_at}, declared.span.FixedTimespan.{FixedTimespan}, Cycle.{instant_on}}
+use Rattle.tz_ever.specs.{InForce.{span_at}, Seam.{IsAtSeam, brought_back}}
+use Rattle.tz_zone.specs.{Compiles.{spans_of}, Cursors.{cursor_left}, Sets.{schedule_of}, declared.time_zone.SpanCursor.{SpanCursor}, declared.set.FixedTimespanSet.{FixedTimespanSet}}
 
 -- at the seam the set shows what it shows a cycle later
 abbrev pub IsRepeating : FixedTimespanSet → Type 0

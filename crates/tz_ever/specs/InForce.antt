@@ -1,8 +1,6 @@
 -- What is in force at an instant.
 use Rattle.std.specs.Prelude.{Bool, List, [], ◌∷◌, ℤ, pos, ◌*ℤ◌, int_le, if◌then◌else◌}
-use Rattle.zone_spans.specs.Entries.{Entry}
-use Rattle.zone_spans.specs.declared.span.FixedTimespan.{FixedTimespan}
-use Rattle.zone_spans.specs.declared.span.FixedTimespanSet.{FixedTimespanSet}
+use Rattle.zone_spans.specs.{Entries.{Entry}, declared.span.FixedTimespan.{FixedTimespan}, declared.span.FixedTimespanSet.{FixedTimespanSet}}
 
 -- the entry's second is at the instant in nanoseconds or before
 abbrev pub has_come : ℤ → Entry → Bool

@@ -1,9 +1,6 @@
 -- What is in force, by the words of a schedule.
 use Rattle.std.specs.Prelude.{◌≡◌, List, [], ◌∷◌, map, filter, true, false, cond, refl, ℤ, pos, ◌*ℤ◌, int_le}
-use Rattle.zone_spans.specs.Entries.{Entry, total}
-use Rattle.zone_spans.specs.Schedules.{last_total, total_at, totals_of}
-use Rattle.zone_spans.specs.declared.span.FixedTimespan.{FixedTimespan}
-use Rattle.zone_spans.specs.declared.span.FixedTimespanSet.{FixedTimespanSet}
+use Rattle.zone_spans.specs.{Entries.{Entry, total}, Schedules.{last_total, total_at, totals_of}, declared.span.FixedTimespan.{FixedTimespan}, declared.span.FixedTimespanSet.{FixedTimespanSet}}
 use Rattle.tz_ever.specs.InForce.{has_come, span_at, span_by}
 
 total_by-is : (es : List Entry) (first : FixedTimespan) (t : ℤ)

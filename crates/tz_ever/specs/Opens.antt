@@ -1,27 +1,11 @@
 -- What a name finds in a table for ever, and why it finds nothing.
-use Rattle.std.specs.Prelude.{◌≡◌, ℕ, List, Bool, Option, Some, true, false, Result, Ok, Err, ℤ}
-use Rattle.std.specs.List.{list_all}
-use Rattle.std.specs.FinMap.{get}
-use Rattle.zone_table.specs.Resolved.{resolved_in}
-use Rattle.zone_table.specs.declared.table.Table.{Table}
-use Rattle.zone_table.specs.declared.zone.ZoneInfo.{ZoneInfo}
-use Rattle.zone_spans.specs.Bounds.{is_bounded_line}
-use Rattle.zone_spans.specs.Compiled.{compiled}
-use Rattle.zone_spans.specs.GoesOn.{GoesOn, goes_on}
-use Rattle.zone_spans.specs.Lines.{zone_lines}
-use Rattle.zone_spans.specs.Schedules.{is_in_offset_range, totals_of}
-use Rattle.zone_spans.specs.declared.fault.SpanFault.{SpanFault}
-use Rattle.zone_spans.specs.declared.fault.SpanFault.TheVariants.{DayRange}
+use Rattle.std.specs.{Prelude.{◌≡◌, ℕ, List, Bool, Option, Some, true, false, Result, Ok, Err, ℤ}, List.{list_all}, FinMap.{get}}
+use Rattle.zone_table.specs.{Resolved.{resolved_in}, declared.table.Table.{Table}, declared.zone.ZoneInfo.{ZoneInfo}}
+use Rattle.zone_spans.specs.{Bounds.{is_bounded_line}, Compiled.{compiled}, GoesOn.{GoesOn, goes_on}, Lines.{zone_lines}, Schedules.{is_in_offset_range, totals_of}, declared.fault.SpanFault.{SpanFault}, declared.fault.SpanFault.TheVariants.{DayRange}}
 use Rattle.zone_spans.specs.declared.span.FixedTimespanSet as spans
-use Rattle.tz_ever.specs.AnyYear.{span_for_ever, total_for_ever}
-use Rattle.tz_zone.specs.Compiles.{IsTooFar, IsZoneFault, compiled_in, compiled_in_over}
-use Rattle.tz_zone.specs.declared.compile.ZoneFault.{ZoneFault}
+use Rattle.tz_ever.specs.{AnyYear.{span_for_ever, total_for_ever}, Ever.{ever_span, ever_total}, ForEver.{IsForEver, ever_years}, declared.open.EverFault.{EverFault}, declared.open.EverFault.TheVariants.{LaterDay, LaterOffset, RulesEnd, Zone}}
+use Rattle.tz_zone.specs.{Compiles.{IsTooFar, IsZoneFault, compiled_in, compiled_in_over}, declared.compile.ZoneFault.{ZoneFault}, declared.set.FixedTimespanSet.{FixedTimespanSet}}
 use Rattle.tz_zone.specs.declared.compile.ZoneFault.TheVariants as zone_fault
-use Rattle.tz_zone.specs.declared.set.FixedTimespanSet.{FixedTimespanSet}
-use Rattle.tz_ever.specs.Ever.{ever_span, ever_total}
-use Rattle.tz_ever.specs.ForEver.{IsForEver, ever_years}
-use Rattle.tz_ever.specs.declared.open.EverFault.{EverFault}
-use Rattle.tz_ever.specs.declared.open.EverFault.TheVariants.{LaterDay, LaterOffset, RulesEnd, Zone}
 
 -- a name finds a zone with these lines, which has a schedule today whose totals are offsets
 pub record IsZoneToday (table : Table) (name : List ℕ) : Type 0 where

@@ -1,8 +1,6 @@
 -- Whole cycles past the seam, by their bounds.
-use Rattle.std.proofs.Common.{◌≡◌, arith, ℕ, zero, suc, ◌*◌, ◌/◌, ◌≤◌, ◌<◌, ℤ, pos, ◌+ℤ◌, ◌-ℤ◌, ◌≤ℤ◌, ◌<ℤ◌, int_lt, true, unsigned_abs, inl, inr, ap, ◌∙◌}
-use Rattle.std.proofs.lemmas.Bool.{cases_Bool}
-use Rattle.basics.specs.ComparisonLaws.{lt_from_fail, lt_from_pass}
-use Rattle.basics.specs.SignedLaws.{signed, natural}
+use Rattle.std.proofs.{Common.{◌≡◌, arith, ℕ, zero, suc, ◌*◌, ◌/◌, ◌≤◌, ◌<◌, ℤ, pos, ◌+ℤ◌, ◌-ℤ◌, ◌≤ℤ◌, ◌<ℤ◌, int_lt, true, unsigned_abs, inl, inr, ap, ◌∙◌}, lemmas.Bool.{cases_Bool}}
+use Rattle.basics.specs.{ComparisonLaws.{lt_from_fail, lt_from_pass}, SignedLaws.{signed, natural}}
 use Rattle.tz_ever.specs.Seam.{brought_back, cycles_past, next_seam, seam}
 
 -- so many whole cycles lie between the seam and x

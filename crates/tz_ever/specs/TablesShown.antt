@@ -1,8 +1,6 @@
 -- The set that is seen of a table for ever.
 use Rattle.tz_zone.specs.declared.set.FixedTimespanSet.{FixedTimespanSet}
-use Rattle.tz_ever.specs.EverShown.{ever_seen}
-use Rattle.tz_ever.specs.Unrolled.{unrolled}
-use Rattle.tz_ever.specs.declared.ever_table.EverTable.{EverTable}
+use Rattle.tz_ever.specs.{EverShown.{ever_seen}, Unrolled.{unrolled}, declared.ever_table.EverTable.{EverTable}}
 
 -- the set's entries up to the year 10501
 abbrev pub unrolled_of : EverTable → FixedTimespanSet

@@ -1,7 +1,6 @@
 -- A set's entries up to the end of the cycle, and then those of the cycle again for each of 20 later ones: up to the year 10501.
 use Rattle.std.specs.Prelude.{◌≡◌, ◌<◌, ◌<ℤ◌, ℕ, zero, suc, List, [], ◌++◌, length, map, filter, slice_index_or, ℤ, pos, int_le, int_lt}
-use Rattle.zone_spans.specs.Cycle.{entry_on}
-use Rattle.zone_spans.specs.Entries.{Entry}
+use Rattle.zone_spans.specs.{Cycle.{entry_on}, Entries.{Entry}}
 use Rattle.tz_zone.specs.declared.set.FixedTimespanSet.{FixedTimespanSet}
 
 -- 2102-01-01 00:00:00 UTC, and 2502-01-01, in seconds: the cycle begins, and the next one

@@ -1,9 +1,6 @@
 //! Dates and times of later cycles, brought back to the years 2102 to 2501.
 ghost use Rattle.std.specs.Prelude.{◌≡◌, ◌%◌, not, int_lt, unsigned_abs, pos, ◌*ℤ◌, ◌≤ℤ◌};
-ghost use Rattle.civil_base.specs.Clock.{nanos_per_day};
-ghost use Rattle.civil_base.specs.DateTimes.{local_of, offset_of};
-ghost use Rattle.civil_base.specs.Julian.{day_of_julian};
-ghost use Rattle.civil_base.specs.Ranges.{IsDay, IsOffset};
+ghost use Rattle.civil_base.specs.{Clock.{nanos_per_day}, DateTimes.{local_of, offset_of}, Julian.{day_of_julian}, Ranges.{IsDay, IsOffset}};
 ghost use Rattle.tz_ever.specs.Seam.{brought_back, next_seam, next_seam_day, seam_day};
 
 use civil_base::{Date, OffsetDateTime, PlainDateTime};

@@ -26,10 +26,8 @@ pub struct EverSet {
 impl EverSet {
     ghost use Rattle.std.specs.Prelude.{◌≡◌, MatchResult};
     ghost use Rattle.tz_zone.specs.Sets.{schedule_of, IsAccepted};
-    ghost use Rattle.tz_lookup.specs.CompactFaults.{IsCompactFault};
-    ghost use Rattle.tz_lookup.specs.CompactShown.{seen};
-    ghost use Rattle.tz_ever.specs.Ever.{IsRepeating};
-    ghost use Rattle.tz_ever.specs.EverShown.{ever_seen};
+    ghost use Rattle.tz_lookup.specs.{CompactFaults.{IsCompactFault}, CompactShown.{seen}};
+    ghost use Rattle.tz_ever.specs.{Ever.{IsRepeating}, EverShown.{ever_seen}};
 
     /// A set that shows at the seam what it shows a cycle later, kept compactly.
     ///

@@ -1,10 +1,7 @@
 //! The changes of a zone that goes on for ever, up to the end of the year 10501, as a table of spans.
 ghost use Rattle.std.specs.Prelude.{◌≡◌, ◌<◌, ◌≤◌, ◌*◌, length, pos, ℤ, ◌+ℤ◌};
-ghost use Rattle.tz_zone.specs.Sets.{IsAccepted, IsSpanTime, schedule_of};
-ghost use Rattle.tz_zone.specs.declared.set.FixedTimespanSet.{FixedTimespanSet};
-ghost use Rattle.tz_ever.specs.EverShown.{ever_seen};
-ghost use Rattle.tz_ever.specs.Places.{IsPlace};
-ghost use Rattle.tz_ever.specs.Unrolled.{entries_before, later_cycles, next_seam_second, seam_second, unrolled_entries};
+ghost use Rattle.tz_zone.specs.{Sets.{IsAccepted, IsSpanTime, schedule_of}, declared.set.FixedTimespanSet.{FixedTimespanSet}};
+ghost use Rattle.tz_ever.specs.{EverShown.{ever_seen}, Places.{IsPlace}, Unrolled.{entries_before, later_cycles, next_seam_second, seam_second, unrolled_entries}};
 
 use crate::ever_set::EverSet;
 use crate::laws;
@@ -42,10 +39,7 @@ struct Place {
 impl<'a> EverTable<'a> {
     ghost use Rattle.std.specs.Prelude.{◌≡◌, ◌<◌, length};
     ghost use Rattle.tz_zone.specs.Sets.{IsAccepted, schedule_of};
-    ghost use Rattle.tz_ever.specs.EverShown.{ever_seen};
-    ghost use Rattle.tz_ever.specs.Places.{IsPlace};
-    ghost use Rattle.tz_ever.specs.TablesShown.{unrolled_of};
-    ghost use Rattle.tz_ever.specs.Unrolled.{unrolled, unrolled_entries};
+    ghost use Rattle.tz_ever.specs.{EverShown.{ever_seen}, Places.{IsPlace}, TablesShown.{unrolled_of}, Unrolled.{unrolled, unrolled_entries}};
 
     /// The table of a set. It takes no memory, and two searches among its entries.
     pub fn new(set: &'a EverSet) -> EverTable<'a>

@@ -1,8 +1,7 @@
 //! A zone that goes on for ever, as a time zone.
 ghost use Rattle.std.specs.Prelude.{◌≡◌, ℤ, ◌≤◌, length, int_lt, pos};
 ghost use Rattle.civil_base.specs.Ranges.{IsOffset};
-ghost use Rattle.zone_spans.specs.Entries.{total};
-ghost use Rattle.zone_spans.specs.Schedules.{instants};
+ghost use Rattle.zone_spans.specs.{Entries.{total}, Schedules.{instants}};
 ghost use Rattle.tz_zone.specs.Sets.{schedule_of, IsOrderlyZone};
 ghost use Rattle.tz_lookup.specs.CompactZones.{compact_of};
 ghost use Rattle.tz_ever.specs.Ever.{GivesEver, IsRepeating, ever_left, ever_total};
@@ -33,8 +32,7 @@ pub struct EverCursor {
 impl<'a> EverTz<'a> {
     ghost use Rattle.std.specs.Prelude.{◌≡◌, ◌↔◌, IsTrue};
     ghost use Rattle.tz_zone.specs.Sets.{schedule_of, IsOrderlyZone};
-    ghost use Rattle.tz_ever.specs.EverShown.{ever_seen};
-    ghost use Rattle.tz_ever.specs.EverZones.{ever_of};
+    ghost use Rattle.tz_ever.specs.{EverShown.{ever_seen}, EverZones.{ever_of}};
 
     /// The zone of a set.
     pub fn new(set: &'a EverSet) -> EverTz<'a>

@@ -2,22 +2,11 @@
 //! year 10501.
 ghost use Rattle.std.specs.Prelude.{◌≡◌, ℕ, IsTrue, List, Some, ℤ, pos, ◌+ℤ◌, ◌<ℤ◌};
 ghost use Rattle.civil_base.specs.Instants.{nanos_of, seconds_of};
-ghost use Rattle.zone_table.specs.declared.table.Table.{Table};
-ghost use Rattle.zone_table.specs.declared.zone.ZoneInfo.{ZoneInfo};
-ghost use Rattle.zone_spans.specs.Lines.{Rulesets};
-ghost use Rattle.zone_spans.specs.Schedules.{is_in_offset_range, total_at};
-ghost use Rattle.tz_ever.specs.AnyYear.{span_for_ever, total_for_ever};
-ghost use Rattle.tz_ever.specs.Opens.{IsFoundForEver, IsZoneToday};
-ghost use Rattle.tz_zone.specs.Compiles.{IsCompiledAs, compiled_in, spans_of};
-ghost use Rattle.tz_zone.specs.InForce.{all_in_force};
-ghost use Rattle.tz_zone.specs.Sets.{IsAccepted, schedule_of};
-ghost use Rattle.tz_zone.specs.declared.set.FixedTimespanSet.{FixedTimespanSet};
-ghost use Rattle.tz_ever.specs.Ever.{IsRepeating, ever_span, ever_total};
-ghost use Rattle.tz_ever.specs.EverShown.{ever_seen};
-ghost use Rattle.tz_ever.specs.ForEver.{IsForEver};
-ghost use Rattle.tz_ever.specs.InForce.{span_at};
+ghost use Rattle.zone_table.specs.declared.{table.Table.{Table}, zone.ZoneInfo.{ZoneInfo}};
+ghost use Rattle.zone_spans.specs.{Lines.{Rulesets}, Schedules.{is_in_offset_range, total_at}, Entries.{Entry}};
+ghost use Rattle.tz_ever.specs.{AnyYear.{span_for_ever, total_for_ever}, Opens.{IsFoundForEver, IsZoneToday}, Ever.{IsRepeating, ever_span, ever_total}, EverShown.{ever_seen}, ForEver.{IsForEver}, InForce.{span_at}};
 ghost use Rattle.tz_ever.specs.Unrolled.{unrolled, unrolled_end, IsLastThere};
-ghost use Rattle.zone_spans.specs.Entries.{Entry};
+ghost use Rattle.tz_zone.specs.{Compiles.{IsCompiledAs, compiled_in, spans_of}, InForce.{all_in_force}, Sets.{IsAccepted, schedule_of}, declared.set.FixedTimespanSet.{FixedTimespanSet}};
 
 use crate::cycle::for_ever;
 use crate::ever_set::EverSet;

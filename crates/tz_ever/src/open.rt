@@ -1,10 +1,8 @@
 //! A zone of a table, opened for ever.
 ghost use Rattle.std.specs.Prelude.{◌≡◌, IfErr, IfOk};
-ghost use Rattle.tz_zone.specs.Sets.{IsAccepted, schedule_of};
-ghost use Rattle.tz_ever.specs.Opens.{DoesNotGoOn, IsEverFault, IsFoundForEver, IsGoing, IsLater, ending_by, fault_later, IsZoneToday};
+ghost use Rattle.tz_zone.specs.{Sets.{IsAccepted, schedule_of}, declared.compile.ZoneFault.TheVariants.{NoMemory}};
+ghost use Rattle.tz_ever.specs.{Opens.{DoesNotGoOn, IsEverFault, IsFoundForEver, IsGoing, IsLater, ending_by, fault_later, IsZoneToday}, declared.open.EverFault.TheVariants.{Zone}};
 ghost use Rattle.tz_lookup.specs.declared.compact_set.CompactFault.TheVariants as compact_fault;
-ghost use Rattle.tz_zone.specs.declared.compile.ZoneFault.TheVariants.{NoMemory};
-ghost use Rattle.tz_ever.specs.declared.open.EverFault.TheVariants.{Zone};
 ghost use Rattle.zone_spans.specs.declared.fault.SpanFault.TheVariants as span_fault;
 ghost use Rattle.zone_table.specs.BoundedTables.{IsBoundedTable};
 
@@ -34,8 +32,7 @@ pub enum EverFault {
 impl EverSet {
     ghost use Rattle.std.specs.Prelude.{IfErr, IfOk};
     ghost use Rattle.zone_table.specs.BoundedTables.{IsBoundedTable};
-    ghost use Rattle.tz_ever.specs.EverShown.{ever_seen};
-    ghost use Rattle.tz_ever.specs.Opens.{IsEverFault, IsFoundForEver, IsZoneToday};
+    ghost use Rattle.tz_ever.specs.{EverShown.{ever_seen}, Opens.{IsEverFault, IsFoundForEver, IsZoneToday}};
 
     /// The zone that a name finds in a table, for ever: what its lines show at any instant, expanded over as many years as the
     /// instant asks for. The table is bounded. The cost is that of expanding the lines over some 2,400 years.

@@ -1,9 +1,6 @@
 -- The names of a table stand in order, each once.
-use Rattle.std.specs.Prelude.{◌++◌, filter}
-use Rattle.std.specs.FinMap.{keys}
-use Rattle.std.proofs.lemmas.Cmp.{nat_list_cmp_total}
-use Rattle.basics.specs.InOrderLaws.{sorted_in_order, rises_from_sorted, RisesStrictly}
-use Rattle.basics.specs.Keyed.{text_cmp}
+use Rattle.std.{specs.Prelude.{◌++◌, filter}, specs.FinMap.{keys}, proofs.lemmas.Cmp.{nat_list_cmp_total}}
+use Rattle.basics.specs.{InOrderLaws.{sorted_in_order, rises_from_sorted, RisesStrictly}, Keyed.{text_cmp}}
 use Rattle.zone_table.specs.declared.table.Table.{Table}
 use Rattle.tz_lookup.specs.Databases.{names_of, resolves}
 

@@ -1,40 +1,15 @@
 -- Names in order, what they find, and the first that is refused.
-use Rattle.std.proofs.Common.{◌≡◌, ◌+◌, ◌<◌, ◌++◌, ℕ, zero, suc, Bool, true, false, cond, List, [], ◌∷◌, get_or, length, map, refl, sym, ap, ◌∙◌, ⊎_elim, arith}
-use Rattle.std.specs.Prelude.{◌||◌, ◌&&◌, filter, not, option_map, reverse, Option, Some, None}
-use Rattle.std.specs.Borrow.{Bor}
-use Rattle.std.specs.declared.cmp.Ordering.{Ordering}
-use Rattle.std.specs.declared.cmp.Ordering.TheVariants.{Less, Equal, Greater}
-use Rattle.std.specs.BTreeSet.{insert_key}
-use Rattle.std.specs.FinMap.{keys, IsAntisymmetric, slice_cmp-IsAntisymmetric, nat_cmp-IsAntisymmetric}
-use Rattle.std.specs.FinMap.Entries.{below_all}
-use Rattle.std.specs.List.{find, list_all, list_any}
-use Rattle.std.specs.List.Sorted.{IsPartitionPoint, IsPermutation, IsSortedBy}
-use Rattle.std.specs.Option.{option_or}
-use Rattle.std.specs.Str.{bytes_eq}
-use Rattle.std.specs.Ordering.{is_eq, is_lt, match_ordering, ordering_reverse}
-use Rattle.std.proofs.Math.Bool.{or_comm}
-use Rattle.std.proofs.lemmas.Bool.{and_parts, cases_lt}
-use Rattle.std.proofs.lemmas.Cmp.{nat_list_cmp_total}
-use Rattle.std.proofs.lemmas.List.{append-nil, reverse-append}
-use Rattle.std.proofs.lemmas.List.Elements.{filter-append}
-use Rattle.std.proofs.lemmas.List.Folds.{list_any-append}
-use Rattle.std.proofs.lemmas.List.Sorted.{list_any-IsPermutation}
-use Rattle.std.proofs.lemmas.Map.Text.{is_eq-slice_cmp}
-use Rattle.basics.specs.InOrder.{in_order}
-use Rattle.basics.specs.InOrderLaws.{same_in_order, any-in_order, tagged, RisesStrictly, less}
-use Rattle.basics.specs.Keyed.{text_cmp}
-use Rattle.basics.specs.TestLaws.{all_by_any}
-use Rattle.zone_spans.specs.declared.fault.SpanFault.{SpanFault}
+use Rattle.std.proofs.{Common.{◌≡◌, ◌+◌, ◌<◌, ◌++◌, ℕ, zero, suc, Bool, true, false, cond, List, [], ◌∷◌, get_or, length, map, refl, sym, ap, ◌∙◌, ⊎_elim, arith}, Math.Bool.{or_comm}, lemmas.Bool.{and_parts, cases_lt}, lemmas.Cmp.{nat_list_cmp_total}}
+use Rattle.std.proofs.lemmas.{List.{append-nil, reverse-append}, List.Elements.{filter-append}, List.Folds.{list_any-append}, List.Sorted.{list_any-IsPermutation}, Map.Text.{is_eq-slice_cmp}}
+use Rattle.std.specs.{Prelude.{◌||◌, ◌&&◌, filter, not, option_map, reverse, Option, Some, None}, Borrow.{Bor}, declared.cmp.Ordering.{Ordering}, declared.cmp.Ordering.TheVariants.{Less, Equal, Greater}, BTreeSet.{insert_key}}
+use Rattle.std.specs.{FinMap.{keys, IsAntisymmetric, slice_cmp-IsAntisymmetric, nat_cmp-IsAntisymmetric}, FinMap.Entries.{below_all}, List.{find, list_all, list_any}, List.Sorted.{IsPartitionPoint, IsPermutation, IsSortedBy}, Option.{option_or}}
+use Rattle.std.specs.{Str.{bytes_eq}, Ordering.{is_eq, is_lt, match_ordering, ordering_reverse}}
+use Rattle.basics.specs.{InOrder.{in_order}, InOrderLaws.{same_in_order, any-in_order, tagged, RisesStrictly, less}, Keyed.{text_cmp}, TestLaws.{all_by_any}}
+use Rattle.zone_spans.specs.{declared.fault.SpanFault.{SpanFault}, Schedules.{is_in_offset_range}}
 use Rattle.zone_table.specs.declared.table.Table.{Table}
-use Rattle.zone_spans.specs.Schedules.{is_in_offset_range}
-use Rattle.tz_zone.specs.Compiles.{compiled_in, spans_of, IsCompiledAs, IsTooFar, IsZoneFault}
-use Rattle.tz_lookup.specs.Databases.{names_of, resolves, found_in, found_as, refusal_of, zone_refusal, first_refused, Named, IsDatabaseFault, name_shown}
-use Rattle.tz_zone.specs.Sets.{schedule_of, IsAccepted}
-use Rattle.tz_zone.specs.CompileLaws.{totals_same}
-use Rattle.tz_zone.specs.declared.compile.ZoneFault.{ZoneFault}
+use Rattle.tz_zone.specs.{Compiles.{compiled_in, spans_of, IsCompiledAs, IsTooFar, IsZoneFault}, Sets.{schedule_of, IsAccepted}, CompileLaws.{totals_same}, declared.compile.ZoneFault.{ZoneFault}, declared.set.FixedTimespanSet.{FixedTimespanSet}}
 use Rattle.tz_zone.specs.declared.compile.ZoneFault.TheVariants as zone_fault
-use Rattle.tz_lookup.specs.declared.database.DatabaseFault.TheVariants.{Schedule, OffsetRange}
-use Rattle.tz_zone.specs.declared.set.FixedTimespanSet.{FixedTimespanSet}
+use Rattle.tz_lookup.specs.{Databases.{names_of, resolves, found_in, found_as, refusal_of, zone_refusal, first_refused, Named, IsDatabaseFault, name_shown}, declared.database.DatabaseFault.TheVariants.{Schedule, OffsetRange}}
 
 pub text_same : IsAntisymmetric text_cmp
 text_same = slice_cmp-IsAntisymmetric nat_cmp-IsAntisymmetric

@@ -1,24 +1,13 @@
 -- What a database is defined by, at worked rows and by laws.
-use Rattle.std.proofs.Common.{◌≡◌, ◌++◌, ℕ, Bool, true, false, List, [], ◌∷◌, map, refl, sym, ap, ◌∙◌, ℤ, pos}
-use Rattle.std.specs.Prelude.{◌&&◌, ◌||◌, filter, Option, Some, None, Ok, Err, codes, is_some, option_and_then, if◌then◌else◌}
-use Rattle.std.specs.declared.cmp.Ordering.TheVariants.{Less, Equal, Greater}
-use Rattle.std.specs.FinMap.{get, keys, contains_key-keys}
-use Rattle.std.specs.List.{list_any}
-use Rattle.std.specs.Option.{option_or}
-use Rattle.std.specs.Ordering.{eq_by_cmp, is_eq}
-use Rattle.std.specs.Str.{bytes_eq}
-use Rattle.std.proofs.Math.Bool.{and-false, and-or_distrib_left, and-true}
-use Rattle.std.proofs.lemmas.List.Folds.{list_any-append}
-use Rattle.basics.specs.InOrderLaws.{any-in_order}
-use Rattle.basics.specs.Keyed.{text_cmp}
-use Rattle.zone_spans.specs.Schedules.{totals_of}
-use Rattle.zone_spans.specs.declared.fault.SpanFault.TheVariants.{MissingUntil, NoStandardSpan}
+use Rattle.std.proofs.{Common.{◌≡◌, ◌++◌, ℕ, Bool, true, false, List, [], ◌∷◌, map, refl, sym, ap, ◌∙◌, ℤ, pos}, Math.Bool.{and-false, and-or_distrib_left, and-true}, lemmas.List.Folds.{list_any-append}}
+use Rattle.std.specs.{Prelude.{◌&&◌, ◌||◌, filter, Option, Some, None, Ok, Err, codes, is_some, option_and_then, if◌then◌else◌}, declared.cmp.Ordering.TheVariants.{Less, Equal, Greater}, FinMap.{get, keys, contains_key-keys}, List.{list_any}}
+use Rattle.std.specs.{Option.{option_or}, Ordering.{eq_by_cmp, is_eq}, Str.{bytes_eq}}
+use Rattle.basics.specs.{InOrderLaws.{any-in_order}, Keyed.{text_cmp}}
+use Rattle.zone_spans.specs.{Schedules.{totals_of}, declared.fault.SpanFault.TheVariants.{MissingUntil, NoStandardSpan}}
 use Rattle.zone_spans.specs.declared.span.FixedTimespanSet as spans
 use Rattle.zone_table.specs.declared.table.Table.{Table}
-use Rattle.tz_lookup.specs.Databases.{resolves, names_of, refusal_of, first_refused, has_part}
-use Rattle.tz_zone.specs.declared.compile.ZoneFault.{ZoneFault}
-use Rattle.tz_zone.specs.declared.compile.ZoneFault.TheVariants.{UnknownZone, Schedule, OffsetRange}
-use Rattle.tz_lookup.proofs.DatabaseLemmas.{any-filter, text_same}
+use Rattle.tz_lookup.{specs.Databases.{resolves, names_of, refusal_of, first_refused, has_part}, proofs.DatabaseLemmas.{any-filter, text_same}}
+use Rattle.tz_zone.specs.declared.compile.ZoneFault.{ZoneFault, TheVariants.{UnknownZone, Schedule, OffsetRange}}
 
 -- ---- parts of names
 

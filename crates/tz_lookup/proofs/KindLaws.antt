@@ -1,11 +1,6 @@
 -- The kinds of a set are those that its spans have, and no two of them are the same.
-use Rattle.std.specs.Prelude.{◌≡◌, Bool, true, false, cond, ◌&&◌, ◌||◌, not, List, [], ◌∷◌, ◌++◌, map, bytes_eq}
-use Rattle.std.specs.List.{list_any}
-use Rattle.std.specs.Ordering.{int_eq}
-use Rattle.std.proofs.Common.{refl, sym, ap, ◌∙◌}
-use Rattle.std.proofs.Math.Bool.{or-false, or_assoc}
-use Rattle.std.proofs.lemmas.Bool.{and_parts, or_parts}
-use Rattle.std.proofs.lemmas.Slice.Eq.{bytes_eq-Decides}
+use Rattle.std.specs.{Prelude.{◌≡◌, Bool, true, false, cond, ◌&&◌, ◌||◌, not, List, [], ◌∷◌, ◌++◌, map, bytes_eq}, List.{list_any}, Ordering.{int_eq}}
+use Rattle.std.proofs.{Common.{refl, sym, ap, ◌∙◌}, Math.Bool.{or-false, or_assoc}, lemmas.Bool.{and_parts, or_parts}, lemmas.Slice.Eq.{bytes_eq-Decides}}
 use Rattle.basics.specs.ComparisonLaws.{eq_from_pass, eq_itself}
 use Rattle.zone_spans.specs.declared.span.FixedTimespan.{FixedTimespan}
 use Rattle.tz_zone.specs.declared.set.FixedTimespanSet.{FixedTimespanSet}

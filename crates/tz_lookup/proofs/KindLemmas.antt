@@ -1,14 +1,8 @@
 -- Kinds, each once.
-use Rattle.std.proofs.Common.{◌≡◌, ℕ, zero, suc, ◌<◌, Bool, true, false, cond, List, [], ◌∷◌, ◌++◌, length, map, refl, sym, ap, ◌∙◌, arith, Some, slice_get}
-use Rattle.std.specs.Prelude.{◌||◌}
-use Rattle.std.specs.List.{list_any}
-use Rattle.std.proofs.lemmas.List.{map-append, length-append}
+use Rattle.std.{proofs.Common.{◌≡◌, ℕ, zero, suc, ◌<◌, Bool, true, false, cond, List, [], ◌∷◌, ◌++◌, length, map, refl, sym, ap, ◌∙◌, arith, Some, slice_get}, specs.Prelude.{◌||◌}, specs.List.{list_any}, proofs.lemmas.List.{map-append, length-append}}
 use Rattle.indexmap.specs.IndexSet.{insert_key}
 use Rattle.zone_spans.specs.declared.span.FixedTimespan.{FixedTimespan}
-use Rattle.tz_lookup.specs.Kinds.{is_same_kind, kind_in, with_kind}
-use Rattle.tz_lookup.proofs.KindLaws.{same_kind}
-use Rattle.tz_lookup.specs.KindShown.{kind_shown}
-use Rattle.tz_lookup.specs.declared.compact_set.Kind.{Kind}
+use Rattle.tz_lookup.{specs.Kinds.{is_same_kind, kind_in, with_kind}, proofs.KindLaws.{same_kind}, specs.KindShown.{kind_shown}, specs.declared.compact_set.Kind.{Kind}}
 use Rattle.tz_lookup.specs.contracts.compact_set.KindPartialEq.TheImpl as same
 
 same_shown : (a b : Kind) → same.ghosts.eq a b ≡ is_same_kind (kind_shown a) (kind_shown b)

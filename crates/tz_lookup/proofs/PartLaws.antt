@@ -1,11 +1,6 @@
 -- A text has a part exactly where that stands somewhere in it, between some front and some rest.
-use Rattle.std.proofs.Common.{◌≡◌, ◌++◌, ℕ, Bool, true, false, List, [], ◌∷◌, drop, length, refl, ap, ◌∙◌}
-use Rattle.std.specs.Prelude.{◌||◌, nat_eq}
-use Rattle.std.specs.List.{starts_with}
-use Rattle.std.specs.Str.Iter.{HasSubslice}
-use Rattle.std.proofs.lemmas.Bool.Decides.{Decides-eqb}
-use Rattle.std.proofs.lemmas.Slice.Eq.{starts_is}
-use Rattle.std.proofs.lemmas.Bool.{or_right}
+use Rattle.std.proofs.{Common.{◌≡◌, ◌++◌, ℕ, Bool, true, false, List, [], ◌∷◌, drop, length, refl, ap, ◌∙◌}, lemmas.Bool.Decides.{Decides-eqb}, lemmas.Slice.Eq.{starts_is}, lemmas.Bool.{or_right}}
+use Rattle.std.specs.{Prelude.{◌||◌, nat_eq}, List.{starts_with}, Str.Iter.{HasSubslice}}
 use Rattle.tz_lookup.specs.Databases.{has_part}
 
 at_front : (text part : List ℕ) → (starts_with nat_eq text part ≡ true → text ≡ part ++ drop (length part) text)

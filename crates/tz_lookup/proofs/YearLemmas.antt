@@ -1,15 +1,6 @@
 -- Years by the seconds at which they begin.
-use Rattle.std.proofs.Common.{◌≡◌, ℕ, zero, suc, ◌+◌, ◌<◌, ◌≤◌, cond, ℤ, pos, negsuc, ◌+ℤ◌, ◌-ℤ◌, ◌*ℤ◌, ◌≤ℤ◌, ◌<ℤ◌, unsigned_abs, sym, ap, ◌∙◌, subst, ⊎_elim, arith}
-use Rattle.std.specs.Int.{int_div_euclid}
-use Rattle.std.proofs.lemmas.Bool.{cases_lt}
-use Rattle.std.proofs.lemmas.Int.{ints}
-use Rattle.basics.specs.Cycles.{cycle_days}
-use Rattle.basics.specs.DateLaws.{IsYearOf, place_of}
-use Rattle.basics.specs.Days.{day}
-use Rattle.basics.specs.MonthLaws.{days_through-two}
-use Rattle.basics.specs.ComparisonLaws.{le_pass, le_fail, le_le}
-use Rattle.basics.specs.SignedLaws.{signed}
-use Rattle.basics.specs.YearLaws.{cycle_days-rise, day-cycle}
+use Rattle.std.{proofs.Common.{◌≡◌, ℕ, zero, suc, ◌+◌, ◌<◌, ◌≤◌, cond, ℤ, pos, negsuc, ◌+ℤ◌, ◌-ℤ◌, ◌*ℤ◌, ◌≤ℤ◌, ◌<ℤ◌, unsigned_abs, sym, ap, ◌∙◌, subst, ⊎_elim, arith}, specs.Int.{int_div_euclid}, proofs.lemmas.Bool.{cases_lt}, proofs.lemmas.Int.{ints}}
+use Rattle.basics.specs.{Cycles.{cycle_days}, DateLaws.{IsYearOf, place_of}, Days.{day}, MonthLaws.{days_through-two}, ComparisonLaws.{le_pass, le_fail, le_le}, SignedLaws.{signed}, YearLaws.{cycle_days-rise, day-cycle}}
 use Rattle.tz_lookup.specs.Years.{year_second, begun_from, years_begun, HaveBegun, IsWithinYear}
 
 -- the day on which a year begins, by the years before it

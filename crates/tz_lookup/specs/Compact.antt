@@ -1,7 +1,6 @@
 -- The set that times beside the numbers of kinds stand for.
 use Rattle.std.specs.Prelude.{◌≡◌, ◌<◌, ℕ, List, [], ◌∷◌, length, map, slice_index_or, ℤ}
-use Rattle.zone_spans.specs.Entries.{Entry}
-use Rattle.zone_spans.specs.declared.span.FixedTimespan.{FixedTimespan}
+use Rattle.zone_spans.specs.{Entries.{Entry}, declared.span.FixedTimespan.{FixedTimespan}}
 use Rattle.tz_zone.specs.declared.set.FixedTimespanSet.{FixedTimespanSet}
 use Rattle.tz_lookup.specs.Kinds.{kind_in, with_kinds}
 

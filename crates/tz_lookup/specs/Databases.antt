@@ -1,23 +1,13 @@
 -- Every zone of a table, by name.
-use Rattle.std.specs.Prelude.{◌≡◌, ◌≢◌, ◌++◌, ◌||◌, ℕ, nat_eq, Bool, List, [], ◌∷◌, filter, is_some, option_map, Option, Some, None, Result, Ok, Err, if◌then◌else◌}
-use Rattle.std.specs.Borrow.{Bor}
-use Rattle.std.specs.FinMap.{keys}
-use Rattle.std.specs.List.{starts_with}
-use Rattle.std.specs.Option.{option_or}
-use Rattle.basics.specs.InOrder.{in_order}
-use Rattle.basics.specs.Keyed.{text_cmp}
-use Rattle.zone_spans.specs.Schedules.{is_in_offset_range, totals_of}
-use Rattle.zone_spans.specs.declared.fault.SpanFault.{SpanFault}
+use Rattle.std.specs.{Prelude.{◌≡◌, ◌≢◌, ◌++◌, ◌||◌, ℕ, nat_eq, Bool, List, [], ◌∷◌, filter, is_some, option_map, Option, Some, None, Result, Ok, Err, if◌then◌else◌}, Borrow.{Bor}, FinMap.{keys}, List.{starts_with}, Option.{option_or}}
+use Rattle.basics.specs.{InOrder.{in_order}, Keyed.{text_cmp}}
+use Rattle.zone_spans.specs.{Schedules.{is_in_offset_range, totals_of}, declared.fault.SpanFault.{SpanFault}}
 use Rattle.zone_spans.specs.declared.fault.SpanFault.TheVariants as span_fault
 use Rattle.zone_spans.specs.declared.span.FixedTimespanSet as spans
-use Rattle.zone_table.specs.Resolved.{resolved_in}
-use Rattle.zone_table.specs.declared.table.Table.{Table}
-use Rattle.tz_zone.specs.Compiles.{compiled_in, spans_of}
-use Rattle.tz_zone.specs.declared.compile.ZoneFault.{ZoneFault}
+use Rattle.zone_table.specs.{Resolved.{resolved_in}, declared.table.Table.{Table}}
+use Rattle.tz_zone.specs.{Compiles.{compiled_in, spans_of}, declared.compile.ZoneFault.{ZoneFault}, declared.set.FixedTimespanSet.{FixedTimespanSet}}
 use Rattle.tz_zone.specs.declared.compile.ZoneFault.TheVariants as zone_fault
-use Rattle.tz_lookup.specs.declared.database.DatabaseFault.{DatabaseFault}
-use Rattle.tz_lookup.specs.declared.database.DatabaseFault.TheVariants.{Schedule, OffsetRange, NoMemory}
-use Rattle.tz_zone.specs.declared.set.FixedTimespanSet.{FixedTimespanSet}
+use Rattle.tz_lookup.specs.declared.database.DatabaseFault.{DatabaseFault, TheVariants.{Schedule, OffsetRange, NoMemory}}
 
 -- the name finds a zone, as a link does that leads to one
 abbrev pub resolves : Table → List ℕ → Bool

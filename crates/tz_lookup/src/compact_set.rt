@@ -1,20 +1,11 @@
 //! A zone's spans, kept compactly, with an index by year.
 ghost use Rattle.std.specs.Prelude.{◌≡◌, ◌≤◌, ◌<◌, length, IfOk, unsigned_abs, pos, negsuc, ◌+◌, ◌+ℤ◌, ◌*ℤ◌, ◌-ℤ◌, ◌≤ℤ◌, ◌<ℤ◌, ◌++◌, ◌∷◌, [], OnOk, slice_index_or, map, ◌-◌, ◌*◌, ◌^◌, ℕ, ℤ, ◌↔◌, IsTrue, MatchResult, List};
-ghost use Rattle.zone_spans.specs.Years.{earliest_year, years_limit};
-ghost use Rattle.tz_lookup.specs.Years.{counted_years, year_second, HaveBegun, IsWithinYear};
-ghost use Rattle.tz_lookup.specs.YearSeconds.{counted_end, rules_begin};
-ghost use Rattle.tz_lookup.specs.YearCounts.{AreBefore, AreYearCounts};
-ghost use Rattle.tz_zone.specs.Sets.{schedule_of, shifts_of, IsAccepted, total_of_span, IsOrderlyZone};
-ghost use Rattle.tz_zone.specs.Spans.{IsCut};
-ghost use Rattle.tz_lookup.specs.Kinds.{kind_in, with_kind, kinds_of};
-ghost use Rattle.civil_base.specs.Instants.{seconds_of};
-ghost use Rattle.civil_base.specs.Ranges.{IsOffset};
-ghost use Rattle.zone_spans.specs.Entries.{Entry};
-ghost use Rattle.zone_spans.specs.Schedules.{instants, total_at};
-ghost use Rattle.zone_spans.specs.declared.span.FixedTimespan.{FixedTimespan};
-ghost use Rattle.tz_lookup.specs.Compact.{set_seen, HaveKinds, StandFor};
+ghost use Rattle.zone_spans.specs.{Years.{earliest_year, years_limit}, Entries.{Entry}, Schedules.{instants, total_at}, declared.span.FixedTimespan.{FixedTimespan}};
+ghost use Rattle.tz_lookup.specs.{Years.{counted_years, year_second, HaveBegun, IsWithinYear}, YearSeconds.{counted_end, rules_begin}, YearCounts.{AreBefore, AreYearCounts}, Kinds.{kind_in, with_kind, kinds_of}, Compact.{set_seen, HaveKinds, StandFor}};
+ghost use Rattle.tz_zone.specs.{Sets.{schedule_of, shifts_of, IsAccepted, total_of_span, IsOrderlyZone}, Spans.{IsCut}};
+ghost use Rattle.civil_base.specs.{Instants.{seconds_of}, Ranges.{IsOffset}};
 
-use basics::{date_of, day_number, Items, Text};
+use basics::{Items, Text, date_of, day_number};
 use indexmap::IndexSet;
 use std::alloc::{AllocError, Global};
 use std::marker::Model;
@@ -352,14 +343,8 @@ pub struct CompactSet {
 impl CompactSet {
     ghost use Rattle.std.specs.Prelude.{◌≡◌, ◌+◌, ◌-◌, ◌*◌, ◌^◌, ℤ, ◌≤◌, ◌↔◌, IsTrue, MatchResult, IfOk, length};
     ghost use Rattle.civil_base.specs.Instants.{seconds_of};
-    ghost use Rattle.tz_zone.specs.Spans.{IsCut};
-    ghost use Rattle.tz_zone.specs.Sets.{schedule_of, shifts_of, total_of_span, IsAccepted, IsNear, IsOrderlyZone};
-    ghost use Rattle.tz_zone.specs.Zones.{set_of};
-    ghost use Rattle.tz_lookup.specs.CompactShown.{seen};
-    ghost use Rattle.tz_lookup.specs.CompactFaults.{IsCompactFault};
-    ghost use Rattle.tz_lookup.specs.Kinds.{kinds_of};
-    ghost use Rattle.tz_lookup.specs.YearCounts.{before_year};
-    ghost use Rattle.tz_lookup.specs.Years.{changes_in_year};
+    ghost use Rattle.tz_zone.specs.{Spans.{IsCut}, Sets.{schedule_of, shifts_of, total_of_span, IsAccepted, IsNear, IsOrderlyZone}, Zones.{set_of}};
+    ghost use Rattle.tz_lookup.specs.{CompactShown.{seen}, CompactFaults.{IsCompactFault}, Kinds.{kinds_of}, YearCounts.{before_year}, Years.{changes_in_year}};
 
     /// A set, kept compactly.
     ///

@@ -1,10 +1,7 @@
 //! A compact set as a time zone.
 ghost use Rattle.std.specs.Prelude.{◌≡◌, ◌≤◌, length, int_lt, pos};
-ghost use Rattle.zone_spans.specs.Entries.{total};
-ghost use Rattle.zone_spans.specs.Schedules.{total_at};
-ghost use Rattle.tz_zone.specs.Cursors.{cursor_left};
-ghost use Rattle.tz_zone.specs.InForce.{GivesAt};
-ghost use Rattle.tz_zone.specs.Sets.{schedule_of, IsOrderlyZone};
+ghost use Rattle.zone_spans.specs.{Entries.{total}, Schedules.{total_at}};
+ghost use Rattle.tz_zone.specs.{Cursors.{cursor_left}, InForce.{GivesAt}, Sets.{schedule_of, IsOrderlyZone}};
 ghost use Rattle.tz_lookup.specs.CompactShown.{seen};
 
 use crate::compact_set::CompactSet;
@@ -30,17 +27,10 @@ pub type CompactInstants<'a> = InstantsIn<'a, CompactSet>;
 
 impl<'a> CompactTz<'a> {
     ghost use Rattle.std.specs.Prelude.{◌≡◌, ◌↔◌, ◌+◌, ◌-◌, ◌*◌, ◌^◌, ◌<◌, ◌≤◌, ℤ, IsTrue, length, map, take, pos};
-    ghost use Rattle.civil_base.specs.DateTimes.{instant, local_of, offset_of};
-    ghost use Rattle.civil_base.specs.Instants.{instant_at, seconds_of};
+    ghost use Rattle.civil_base.specs.{DateTimes.{instant, local_of, offset_of}, Instants.{instant_at, seconds_of}};
     ghost use Rattle.zone_spans.specs.Schedules.{total_at};
-    ghost use Rattle.tz_zone.specs.Answers.{listed, EachOf};
-    ghost use Rattle.tz_zone.specs.InForce.{all_in_force, shown_of, totals_at, AreInstants, GivesAt};
-    ghost use Rattle.tz_zone.specs.Sets.{schedule_of, shifts_of, IsNear, IsOrderlyZone};
-    ghost use Rattle.tz_lookup.specs.CompactLeft.{compact_left};
-    ghost use Rattle.tz_lookup.specs.CompactShown.{seen};
-    ghost use Rattle.tz_lookup.specs.CompactZones.{compact_of};
-    ghost use Rattle.tz_zone.specs.Zones.{span_shown, total_shown, IsGivenFor};
-    ghost use Rattle.tz_lookup.specs.Years.{changes_in_year};
+    ghost use Rattle.tz_zone.specs.{Answers.{listed, EachOf}, InForce.{all_in_force, shown_of, totals_at, AreInstants, GivesAt}, Sets.{schedule_of, shifts_of, IsNear, IsOrderlyZone}, Zones.{span_shown, total_shown, IsGivenFor}};
+    ghost use Rattle.tz_lookup.specs.{CompactLeft.{compact_left}, CompactShown.{seen}, CompactZones.{compact_of}, Years.{changes_in_year}};
 
     /// The zone of a compact set.
     pub fn new(set: &'a CompactSet) -> CompactTz<'a>

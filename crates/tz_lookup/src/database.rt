@@ -1,16 +1,9 @@
 //! Every zone of a table, found by its name or by a part of it.
-ghost use Rattle.std.specs.Prelude.{◌≡◌, ℕ, List, map as each, filter, reverse, is_some, option_map, true, IfOk, IfErr, OnOk, IsTrue, ◌↔◌};
-ghost use Rattle.std.specs.BTreeSet.{insert_key};
-ghost use Rattle.std.specs.List.{find, list_all};
-ghost use Rattle.std.specs.Str.{bytes_eq};
-ghost use Rattle.basics.specs.InOrder.{in_order as sorted_names};
-ghost use Rattle.basics.specs.InOrderLaws.{RisesStrictly};
-ghost use Rattle.basics.specs.Keyed.{text_cmp};
+ghost use Rattle.std.specs.{Prelude.{◌≡◌, ℕ, List, map as each, filter, reverse, is_some, option_map, true, IfOk, IfErr, OnOk, IsTrue, ◌↔◌}, BTreeSet.{insert_key}, List.{find, list_all}, Str.{bytes_eq}};
+ghost use Rattle.basics.specs.{InOrder.{in_order as sorted_names}, InOrderLaws.{RisesStrictly}, Keyed.{text_cmp}};
 ghost use Rattle.zone_table.specs.BoundedTables.{IsBoundedTable};
-ghost use Rattle.tz_zone.specs.Compiles.{compiled_in};
+ghost use Rattle.tz_zone.specs.{Compiles.{compiled_in}, Sets.{schedule_of, IsAccepted, IsOrderlyZone}, Zones.{set_of}};
 ghost use Rattle.tz_lookup.specs.Databases.{names_of, resolves, found_in, found_as, first_refused, zone_refusal, IsDatabaseFault, has_part, name_shown};
-ghost use Rattle.tz_zone.specs.Sets.{schedule_of, IsAccepted, IsOrderlyZone};
-ghost use Rattle.tz_zone.specs.Zones.{set_of};
 
 use basics::{Items, Text};
 use std::alloc::{AllocError, Global};
@@ -162,8 +155,7 @@ pub struct DatabaseIter<'a> {
 }
 
 impl<'a> Model for DatabaseIter<'a> {
-    ghost use Rattle.std.specs.Prelude.{List, map as each};
-    ghost use Rattle.std.specs.Slice.Iter.{iter_rest};
+    ghost use Rattle.std.specs.{Prelude.{List, map as each}, Slice.Iter.{iter_rest}};
     ghost use Rattle.tz_zone.specs.declared.set.FixedTimespanSet.{FixedTimespanSet};
 
     ghost Value = { List FixedTimespanSet };

@@ -1,26 +1,13 @@
 -- A zone of two yearly rules beside the POSIX value that says the same, whichever of its start and its end comes first.
-use Rattle.std.proofs.Common.{◌≡◌, ℕ, ◌+◌, ◌-◌, ◌<◌, inl, inr, ⊎_elim, true, false, cond, ◌&&◌, List, [], ◌∷◌, None, Option, Some, is_some, unwrap_or, Result, Ok, refl, sym, ap, ◌∙◌, subst, arith, ℤ, pos, ◌+ℤ◌, ◌-ℤ◌, ◌*ℤ◌, ◌<ℤ◌, int_eq}
-use Rattle.std.proofs.lemmas.Int.{ints}
-use Rattle.basics.specs.Days.{IsCountedYear}
-use Rattle.basics.specs.SignedLaws.{signed}
-use Rattle.zone_values.specs.declared.time.TimeType.TheVariants.{Wall}
-use Rattle.zone_values.specs.declared.year.Year.TheVariants.{Maximum, Number}
-use Rattle.zone_table.specs.Moments.{has_last_year, is_number, moment}
-use Rattle.zone_table.specs.declared.rule.RuleInfo.{RuleInfo}
-use Rattle.zone_table.specs.declared.zone.ZoneInfo.{ZoneInfo}
-use Rattle.zone_spans.specs.Compiled.{compiled, compiled_over, set_of_lines, unless}
-use Rattle.zone_spans.specs.Faults.{schedule_fault}
-use Rattle.zone_spans.specs.Lines.{Line, Rulesets, is_known, is_ruled, rules_named, zone_lines}
-use Rattle.zone_spans.specs.Schedules.{schedule_of_lines, totals_told, total_at, totals_of}
-use Rattle.tz_posix.specs.TwoRules.{AreBoth, HasTwoRules, written, year_from}
-use Rattle.tz_posix.proofs.TwoRuleSetLemmas.{IsExpandable}
-use Rattle.tz_posix.proofs.TwoRuleFiringLemmas.{wall_moment}
-use Rattle.zone_spans.specs.declared.fault.SpanFault.{SpanFault}
-use Rattle.zone_spans.specs.declared.span.FixedTimespanSet.{FixedTimespanSet}
-use Rattle.tz_posix.specs.Agreement.{IsChange, IsInRuleYears, IsRuleYear, IsSameTime, RuledValue, SaysTheSame, TwoRuleZone, end_in, first_year, start_in, value_total}
+use Rattle.std.proofs.{Common.{◌≡◌, ℕ, ◌+◌, ◌-◌, ◌<◌, inl, inr, ⊎_elim, true, false, cond, ◌&&◌, List, [], ◌∷◌, None, Option, Some, is_some, unwrap_or, Result, Ok, refl, sym, ap, ◌∙◌, subst, arith, ℤ, pos, ◌+ℤ◌, ◌-ℤ◌, ◌*ℤ◌, ◌<ℤ◌, int_eq}, lemmas.Int.{ints}}
+use Rattle.basics.specs.{Days.{IsCountedYear}, SignedLaws.{signed}}
+use Rattle.zone_values.specs.declared.{time.TimeType.TheVariants.{Wall}, year.Year.TheVariants.{Maximum, Number}}
+use Rattle.zone_table.specs.{Moments.{has_last_year, is_number, moment}, declared.rule.RuleInfo.{RuleInfo}, declared.zone.ZoneInfo.{ZoneInfo}}
+use Rattle.zone_spans.specs.{Compiled.{compiled, compiled_over, set_of_lines, unless}, Faults.{schedule_fault}, Lines.{Line, Rulesets, is_known, is_ruled, rules_named, zone_lines}, Schedules.{schedule_of_lines, totals_told, total_at, totals_of}}
+use Rattle.zone_spans.specs.declared.{fault.SpanFault.{SpanFault}, span.FixedTimespanSet.{FixedTimespanSet}}
+use Rattle.tz_posix.specs.{TwoRules.{AreBoth, HasTwoRules, written, year_from}, Agreement.{IsChange, IsInRuleYears, IsRuleYear, IsSameTime, RuledValue, SaysTheSame, TwoRuleZone, end_in, first_year, start_in, value_total}}
 use Rattle.tz_posix.specs.InForce.{YearlyTime, instant_in, is_saving, is_within, posix_total, year_at, yearly_time}
-use Rattle.tz_posix.proofs.HemisphereLemmas.{savings_differ}
-use Rattle.tz_posix.proofs.NamedDayLemmas.{named_day-is, never_outside}
+use Rattle.tz_posix.proofs.{TwoRuleSetLemmas.{IsExpandable}, TwoRuleFiringLemmas.{wall_moment}, HemisphereLemmas.{savings_differ}, NamedDayLemmas.{named_day-is, never_outside}}
 use Rattle.tz_posix.proofs.StandardYearLemmas.{ArePlaces, IsNear, applies_from, are_places, earlier_year, near-counted, near_year, not_before, place_in, place_in-is, rule_year, year_at-is, years_before}
 
 -- ---- what is compiled

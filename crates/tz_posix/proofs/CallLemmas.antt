@@ -1,32 +1,15 @@
 -- What the calls of a zone of two yearly rules and of the string that says the same give.
-use Rattle.std.proofs.Common.{◌≡◌, ⊎_elim, true, false, cond, List, [], ◌∷◌, Option, Some, None, IfSome, Ok, refl, sym, ap, ◌∙◌, subst, arith, ℤ, pos, neg_ℤ, int_eq}
-use Rattle.std.proofs.lemmas.Bool.{and_from}
-use Rattle.std.proofs.lemmas.Int.{ints}
-use Rattle.basics.specs.ComparisonLaws.{le_pass}
-use Rattle.basics.specs.SignedLaws.{signed}
+use Rattle.std.proofs.{Common.{◌≡◌, ⊎_elim, true, false, cond, List, [], ◌∷◌, Option, Some, None, IfSome, Ok, refl, sym, ap, ◌∙◌, subst, arith, ℤ, pos, neg_ℤ, int_eq}, lemmas.Bool.{and_from}, lemmas.Int.{ints}}
+use Rattle.basics.specs.{ComparisonLaws.{le_pass}, SignedLaws.{signed}}
 use Rattle.civil_base.specs.Instants.{seconds_of}
-use Rattle.zone_values.specs.declared.day.DaySpec.{DaySpec}
-use Rattle.zone_values.specs.declared.month.Month.{Month}
-use Rattle.zone_values.specs.declared.weekday.Weekday.{Weekday}
-use Rattle.zone_spans.specs.Compiled.{compiled}
-use Rattle.zone_spans.specs.Lines.{Rulesets}
-use Rattle.zone_spans.specs.Schedules.{schedule_of_lines, totals_told, total_at, totals_of}
-use Rattle.tz_lookup.specs.Compiles.{spans_of}
-use Rattle.tz_lookup.specs.Sets.{schedule_of as schedule_in}
+use Rattle.zone_values.specs.declared.{day.DaySpec.{DaySpec}, month.Month.{Month}, weekday.Weekday.{Weekday}}
+use Rattle.zone_spans.specs.{Compiled.{compiled}, Lines.{Rulesets}, Schedules.{schedule_of_lines, totals_told, total_at, totals_of}}
+use Rattle.tz_lookup.specs.{Compiles.{spans_of}, Sets.{schedule_of as schedule_in}}
 use Rattle.tz_zone.specs.declared.set.FixedTimespanSet.{FixedTimespanSet}
-use Rattle.tz_posix.specs.Agreement.{IsCovered, IsInRuleYears, IsSameDay, RuledValue, SaysTheSame, TwoRuleZone, from_first, from_eighth, from_fifteenth, from_twenty_second, last_of_month, first_year, value_of, value_total}
-use Rattle.tz_posix.specs.Days.{day_refusal}
-use Rattle.tz_posix.specs.InForce.{is_year, rule_refusal, year_at, yearly_time}
-use Rattle.tz_posix.specs.PosixZones.{Given, Gives, GivesTotal, PosixZone, ruled, posix_refusal}
-use Rattle.tz_posix.specs.Ranges.{first_some}
-use Rattle.tz_posix.specs.Resolved.{resolved}
-use Rattle.tz_posix.specs.Seconds.{east_of}
-use Rattle.tz_posix.specs.declared.date.Date.{Date}
+use Rattle.tz_posix.specs.{Agreement.{IsCovered, IsInRuleYears, IsSameDay, RuledValue, SaysTheSame, TwoRuleZone, from_first, from_eighth, from_fifteenth, from_twenty_second, last_of_month, first_year, value_of, value_total}, Days.{day_refusal}}
+use Rattle.tz_posix.specs.{InForce.{is_year, rule_refusal, year_at, yearly_time}, PosixZones.{Given, Gives, GivesTotal, PosixZone, ruled, posix_refusal}, Ranges.{first_some}, Resolved.{resolved}, Seconds.{east_of}, declared.date.Date.{Date}}
 use Rattle.tz_posix.specs.declared.error.Error.TheVariants.{ComponentRange}
-use Rattle.tz_posix.proofs.AgreementLemmas.{found_place, near}
-use Rattle.tz_posix.proofs.NorthernLemmas.{northern_agrees}
-use Rattle.tz_posix.proofs.SouthernLemmas.{southern_agrees, southern_covered}
-use Rattle.tz_posix.proofs.StandardYearLemmas.{IsNear}
+use Rattle.tz_posix.proofs.{AgreementLemmas.{found_place, near}, NorthernLemmas.{northern_agrees}, SouthernLemmas.{southern_agrees, southern_covered}, StandardYearLemmas.{IsNear}}
 
 -- a day that a rule may have is not refused before 9999
 not_refused : (month : Month) (w : Weekday) (spec : DaySpec) (date : Date) (y : ℤ) → int_eq y (pos 9999) ≡ false

@@ -1,10 +1,7 @@
 -- What a time zone by a text gives an instant.
 use Rattle.std.proofs.Common.{◌≡◌, refl, Bool, true, false, None, Some, Result, Err, ℤ}
 use Rattle.civil_base.specs.declared.offset_date_time.OffsetDateTime.{OffsetDateTime}
-use Rattle.tz_posix.specs.InForce.{YearlyTime, is_saving, posix_total}
-use Rattle.tz_posix.specs.PosixShown.{IsAtOffset, Converts}
-use Rattle.tz_posix.specs.PosixZones.{Named, PosixZone, Given, either, IsOf, GivesByRule, Gives, posix_refusal}
-use Rattle.tz_posix.specs.declared.error.Error.{Error}
+use Rattle.tz_posix.specs.{InForce.{YearlyTime, is_saving, posix_total}, PosixShown.{IsAtOffset, Converts}, PosixZones.{Named, PosixZone, Given, either, IsOf, GivesByRule, Gives, posix_refusal}, declared.error.Error.{Error}}
 
 pub given_by_rule : (standard saving : Named) (start end : YearlyTime) (second : ℤ) (given : Given) (holds : Bool)
     → holds ≡ is_saving standard.total saving.total start end second → IsOf (either standard saving holds) given → given.saving ≡ holds

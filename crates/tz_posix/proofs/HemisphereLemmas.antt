@@ -1,6 +1,5 @@
 -- The total that two firings in a year leave is that of a start and an end, whichever of them comes first.
-use Rattle.std.proofs.Common.{◌≡◌, Bool, true, false, cond, not, ◌&&◌, ◌||◌, refl, sym, ap, ◌∙◌, arith, ℤ, pos, ◌+ℤ◌, ◌-ℤ◌, ◌<ℤ◌, ◌≤ℤ◌, int_lt, int_le, int_eq}
-use Rattle.std.proofs.lemmas.Int.{ints}
+use Rattle.std.proofs.{Common.{◌≡◌, Bool, true, false, cond, not, ◌&&◌, ◌||◌, refl, sym, ap, ◌∙◌, arith, ℤ, pos, ◌+ℤ◌, ◌-ℤ◌, ◌<ℤ◌, ◌≤ℤ◌, int_lt, int_le, int_eq}, lemmas.Int.{ints}}
 use Rattle.basics.specs.ComparisonLaws.{le_from_lt, lt_fail, lt_pass}
 use Rattle.tz_posix.specs.InForce.{is_within}
 

@@ -1,23 +1,11 @@
 -- Rules whose months lie two or more apart, and neither in January nor in December, start and end far enough apart in all years.
-use Rattle.std.proofs.Common.{◌≡◌, ℕ, suc, ◌+◌, ◌-◌, ◌<◌, ◌≤◌, ◌⊎◌, inl, inr, ⊎_elim, sym, ap, ◌∙◌, subst, arith, ℤ, pos, ◌+ℤ◌, ◌-ℤ◌, ◌*ℤ◌, ◌≤ℤ◌, ◌<ℤ◌, unsigned_abs}
-use Rattle.std.proofs.lemmas.Int.{ints, by_lt_z}
-use Rattle.basics.specs.DateLaws.{day-into_year, place_of}
-use Rattle.basics.specs.Days.{day, days_in_year, days_into_year, days_through, IsCountedYear}
-use Rattle.basics.specs.MonthLaws.{days_in_month-bounds, days_in_month-december, days_in_year-bounds, days_through-all, days_through-rise, days_through-step, days_through-two}
-use Rattle.basics.specs.SignedLaws.{signed}
-use Rattle.basics.specs.YearLaws.{cycle_days-suc, day-cycle}
-use Rattle.zone_values.specs.Days.{named_day}
-use Rattle.zone_values.specs.Months.{month_number}
-use Rattle.zone_values.specs.declared.time.TimeType.TheVariants.{Wall}
-use Rattle.zone_values.specs.declared.weekday.Weekday.{Weekday}
+use Rattle.std.proofs.{Common.{◌≡◌, ℕ, suc, ◌+◌, ◌-◌, ◌<◌, ◌≤◌, ◌⊎◌, inl, inr, ⊎_elim, sym, ap, ◌∙◌, subst, arith, ℤ, pos, ◌+ℤ◌, ◌-ℤ◌, ◌*ℤ◌, ◌≤ℤ◌, ◌<ℤ◌, unsigned_abs}, lemmas.Int.{ints, by_lt_z}}
+use Rattle.basics.specs.{DateLaws.{day-into_year, place_of}, Days.{day, days_in_year, days_into_year, days_through, IsCountedYear}}
+use Rattle.basics.specs.{MonthLaws.{days_in_month-bounds, days_in_month-december, days_in_year-bounds, days_through-all, days_through-rise, days_through-step, days_through-two}, SignedLaws.{signed}, YearLaws.{cycle_days-suc, day-cycle}}
+use Rattle.zone_values.specs.{Days.{named_day}, Months.{month_number}, declared.time.TimeType.TheVariants.{Wall}, declared.weekday.Weekday.{Weekday}}
 use Rattle.zone_table.specs.declared.rule.RuleInfo.{RuleInfo}
-use Rattle.tz_posix.specs.DayLaws.{days_into_year-is}
-use Rattle.tz_posix.specs.TwoRules.{written}
-use Rattle.tz_posix.proofs.TwoRuleFiringLemmas.{wall_moment}
-use Rattle.tz_posix.specs.Agreement.{IsChange, IsInRuleYears, IsNorthern, IsRuleYear, IsSameDay, IsSouthern, IsTimeOfDay, TwoRuleZone, end_in, start_in}
-use Rattle.tz_posix.specs.declared.date.Date.{Date}
-use Rattle.tz_posix.proofs.NamedDayLemmas.{is_named}
-use Rattle.tz_posix.proofs.StandardYearLemmas.{IsNear, near-counted, near_year, year_starts-rise}
+use Rattle.tz_posix.specs.{DayLaws.{days_into_year-is}, TwoRules.{written}, Agreement.{IsChange, IsInRuleYears, IsNorthern, IsRuleYear, IsSameDay, IsSouthern, IsTimeOfDay, TwoRuleZone, end_in, start_in}, declared.date.Date.{Date}}
+use Rattle.tz_posix.proofs.{TwoRuleFiringLemmas.{wall_moment}, NamedDayLemmas.{is_named}, StandardYearLemmas.{IsNear, near-counted, near_year, year_starts-rise}}
 
 -- ---- one rule in one year
 

@@ -1,20 +1,11 @@
 -- Where the start comes first in each year, the zone and the value agree.
 use Rattle.std.proofs.Common.{◌≡◌, ℕ, zero, suc, ◌-◌, ◌<◌, inr, cond, [], ◌∷◌, Ok, refl, sym, ap, ◌∙◌, arith, ℤ, pos, ◌+ℤ◌, ◌<ℤ◌, int_le}
-use Rattle.basics.specs.ComparisonLaws.{le_from_lt, le_same, lt_same}
-use Rattle.basics.specs.SignedLaws.{signed}
+use Rattle.basics.specs.{ComparisonLaws.{le_from_lt, le_same, lt_same}, SignedLaws.{signed}}
 use Rattle.civil_base.specs.Instants.{seconds_of}
 use Rattle.zone_table.specs.Moments.{moment}
-use Rattle.zone_spans.specs.Compiled.{compiled}
-use Rattle.zone_spans.specs.Lines.{Rulesets}
-use Rattle.zone_spans.specs.Schedules.{schedule_of_lines, total_at, totals_of}
-use Rattle.tz_posix.specs.TwoRules.{AreInTurn, IsCompiled, IsInYear, first_at, saving_before, year_from}
-use Rattle.tz_posix.proofs.TwoRuleSetLemmas.{two_rules_compile}
-use Rattle.tz_posix.proofs.TwoRuleTotalLemmas.{two_rules_total}
-use Rattle.zone_spans.specs.declared.span.FixedTimespanSet.{FixedTimespanSet}
-use Rattle.tz_posix.specs.Agreement.{IsInRuleYears, IsNorthern, RuledValue, SaysTheSame, TwoRuleZone, end_in, first_year, start_in, value_total}
-use Rattle.tz_posix.specs.InForce.{is_within}
-use Rattle.tz_posix.proofs.HemisphereLemmas.{northern_total, start_before_end, end_before_start, up_le}
-use Rattle.tz_posix.proofs.StandardYearLemmas.{years_before}
+use Rattle.zone_spans.specs.{Compiled.{compiled}, Lines.{Rulesets}, Schedules.{schedule_of_lines, total_at, totals_of}, declared.span.FixedTimespanSet.{FixedTimespanSet}}
+use Rattle.tz_posix.specs.{TwoRules.{AreInTurn, IsCompiled, IsInYear, first_at, saving_before, year_from}, Agreement.{IsInRuleYears, IsNorthern, RuledValue, SaysTheSame, TwoRuleZone, end_in, first_year, start_in, value_total}, InForce.{is_within}}
+use Rattle.tz_posix.proofs.{TwoRuleSetLemmas.{two_rules_compile}, TwoRuleTotalLemmas.{two_rules_total}, HemisphereLemmas.{northern_total, start_before_end, end_before_start, up_le}, StandardYearLemmas.{years_before}}
 use Rattle.tz_posix.proofs.AgreementLemmas.{a_start, an_end, at, compiled_line, differ, end-written, end_expandable, found_place, in_order, known, line_of, schedule-is, start-written, start_expandable, start_first, value_total-is, year_of_place}
 
 module _ (rulesets : Rulesets) (zone : TwoRuleZone) (q : RuledValue) (c : SaysTheSame rulesets zone q) (north : IsNorthern zone) where

@@ -1,12 +1,8 @@
 -- Offsets in their range are less than 25 hours in size.
-use Rattle.std.proofs.Common.{◌≡◌, ℕ, ◌≤◌, Bool, true, false, cond, nat_le, Some, None, not, refl, arith}
-use Rattle.std.proofs.lemmas.Bool.{and_parts, leb-true}
+use Rattle.std.proofs.{Common.{◌≡◌, ℕ, ◌≤◌, Bool, true, false, cond, nat_le, Some, None, not, refl, arith}, lemmas.Bool.{and_parts, leb-true}}
 use Rattle.basics.specs.SignedLaws.{signed}
 use Rattle.civil_base.specs.Offsets.{signed_by}
-use Rattle.tz_posix.specs.Ranges.{is_time, offset_miss}
-use Rattle.tz_posix.specs.Seconds.{time_seconds, offset_seconds, IsWritten}
-use Rattle.tz_posix.specs.declared.time.Offset.{Offset}
-use Rattle.tz_posix.specs.declared.time.Time.{Time}
+use Rattle.tz_posix.specs.{Ranges.{is_time, offset_miss}, Seconds.{time_seconds, offset_seconds, IsWritten}, declared.time.Offset.{Offset}, declared.time.Time.{Time}}
 
 no_miss : {A : Type 0} (passes : Bool) (miss : A) → cond passes None (Some miss) ≡ None → passes ≡ true
 no_miss true miss e = refl

@@ -1,10 +1,6 @@
 -- A string gives an instant one total.
-use Rattle.std.proofs.Common.{◌≡◌, ℕ, ◌<◌, Bool, true, List, Option, None, is_some, ℤ, pos, int_lt, inl, inr, sym, ap, ◌∙◌, arith}
-use Rattle.std.proofs.lemmas.Bool.{cases_lt}
-use Rattle.std.proofs.lemmas.Int.{ints}
-use Rattle.tz_lookup.specs.InForce.{GivesAt}
-use Rattle.tz_lookup.specs.Sets.{span_in}
-use Rattle.tz_lookup.specs.Spans.{IsCut, Shift}
+use Rattle.std.proofs.{Common.{◌≡◌, ℕ, ◌<◌, Bool, true, List, Option, None, is_some, ℤ, pos, int_lt, inl, inr, sym, ap, ◌∙◌, arith}, lemmas.Bool.{cases_lt}, lemmas.Int.{ints}}
+use Rattle.tz_lookup.specs.{InForce.{GivesAt}, Sets.{span_in}, Spans.{IsCut, Shift}}
 use Rattle.tz_zone.specs.declared.set.FixedTimespanSet.{FixedTimespanSet}
 use Rattle.tz_posix.specs.PosixZones.{Given, Gives, GivesTotal, PosixZone, either, borrowed, fixed, ruled, zone}
 

@@ -1,17 +1,7 @@
 -- Where nothing misses its range, no part does.
-use Rattle.std.proofs.Common.{◌≡◌, [], ◌∷◌, Option, Some, None}
-use Rattle.std.specs.Prelude.{option_and_then, option_map}
-use Rattle.tz_posix.specs.RangeLaws.{none_first}
-use Rattle.tz_posix.specs.Ranges.{first_miss, offset_miss, posix_range, rule_range}
-use Rattle.tz_posix.specs.Shown.{dst_shown, std_shown, tz_shown}
-use Rattle.tz_posix.specs.Spells.{day_times}
-use Rattle.tz_posix.specs.Values.{StdPart, DstPart, expanded}
-use Rattle.tz_posix.specs.declared.time.Time.{Time}
-use Rattle.tz_posix.specs.declared.values.Rule.{Rule}
-use Rattle.tz_posix.specs.declared.values.Dst.{Dst}
-use Rattle.tz_posix.specs.declared.values.Std.{Std}
-use Rattle.tz_posix.specs.declared.values.Tz.{Tz}
-use Rattle.tz_posix.specs.declared.values.Tz.TheVariants.{Expanded}
+use Rattle.std.{proofs.Common.{◌≡◌, [], ◌∷◌, Option, Some, None}, specs.Prelude.{option_and_then, option_map}}
+use Rattle.tz_posix.specs.{RangeLaws.{none_first}, Ranges.{first_miss, offset_miss, posix_range, rule_range}, Shown.{dst_shown, std_shown, tz_shown}, Spells.{day_times}, Values.{StdPart, DstPart, expanded}, declared.time.Time.{Time}}
+use Rattle.tz_posix.specs.declared.values.{Rule.{Rule}, Dst.{Dst}, Std.{Std}, Tz.{Tz}, Tz.TheVariants.{Expanded}}
 
 standard_fits : (std : StdPart) (dst : Option (DstPart Time)) → posix_range (expanded std dst) ≡ None → offset_miss std.offset ≡ None
 unfolding first_miss

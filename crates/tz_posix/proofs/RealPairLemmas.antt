@@ -1,35 +1,17 @@
 -- Three pairs of yearly rules of the tz database meet each condition.
 use Rattle.std.proofs.Common.{◌≡◌, ℕ, List, [], ◌∷◌, Option, inl, inr, refl, sym, ap, ◌∙◌, ◌⊎◌, arith, ℤ, pos, neg_ℤ, ◌+ℤ◌, ◌-ℤ◌, ◌*ℤ◌, ◌≤ℤ◌, ◌<ℤ◌}
-use Rattle.basics.specs.Numbers.{value_in}
-use Rattle.basics.specs.Dates.{last_with}
-use Rattle.basics.specs.Days.{is_leap, days_in_year, days_in_month, days_after_zero, year_start, days_through, days_into_year, day}
-use Rattle.basics.specs.SignedLaws.{signed}
-use Rattle.basics.specs.Weekdays.{weekday_of}
+use Rattle.basics.specs.{Numbers.{value_in}, Dates.{last_with}, Days.{is_leap, days_in_year, days_in_month, days_after_zero, year_start, days_through, days_into_year, day}, SignedLaws.{signed}, Weekdays.{weekday_of}}
 use Rattle.civil_base.specs.Instants.{seconds_of}
-use Rattle.zone_values.specs.Days.{first_from, named_day}
-use Rattle.zone_values.specs.Months.{month_number}
-use Rattle.zone_values.specs.declared.day.DaySpec.{DaySpec}
-use Rattle.zone_values.specs.declared.day.DaySpec.TheVariants.{FirstOnOrAfter, Last}
-use Rattle.zone_values.specs.declared.month.Month.{Month}
-use Rattle.zone_values.specs.declared.month.Month.TheVariants.{March, April, October, November}
-use Rattle.zone_values.specs.declared.weekday.Weekday.TheVariants.{Sunday}
+use Rattle.zone_values.specs.{Days.{first_from, named_day}, Months.{month_number}, declared.day.DaySpec.{DaySpec}, declared.day.DaySpec.TheVariants.{FirstOnOrAfter, Last}, declared.month.Month.{Month}}
+use Rattle.zone_values.specs.declared.{month.Month.TheVariants.{March, April, October, November}, weekday.Weekday.TheVariants.{Sunday}}
 use Rattle.zone_table.specs.declared.zone.ZoneInfo.{ZoneInfo}
-use Rattle.zone_spans.specs.Lines.{Rulesets}
-use Rattle.zone_spans.specs.Schedules.{schedule_of_lines, total_at}
-use Rattle.tz_posix.proofs.TwoRuleFiringLemmas.{wall_moment}
-use Rattle.tz_posix.specs.Agreement.{IsChange, IsNorthern, IsSameDay, IsSameTime, IsSouthern, IsTimeOfDay, RuledValue, SaysTheSame, TwoRuleZone, start_in, value_of, value_total, from_first, from_eighth, last_of_month}
-use Rattle.tz_posix.specs.DayLaws.{day-2100}
-use Rattle.tz_posix.specs.Reading.{number_at, part_at, clock_time_at, sign_at, offset_at, letters_at, enclosed_at, name_at, weekday_at, date_at, moment_at, rule_in, own_offset_at, own_rule_in, dst_in, short_in, expanded_in, entry_in}
-use Rattle.tz_posix.specs.RealPairs.{IsRuledBy, on_the_wall, lord_howe_rules, lord_howe_text, lord_howe_value, moldova_rules, moldova_text, moldova_value, new_york_text, new_york_value, us_rules}
-use Rattle.tz_posix.specs.InForce.{yearly_time}
-use Rattle.tz_posix.specs.Seconds.{IsWritten, east_of, offset_seconds, time_seconds}
-use Rattle.tz_posix.specs.declared.date.Date.{Date}
-use Rattle.tz_posix.specs.Spells.{Spells}
-use Rattle.tz_posix.proofs.NorthernLemmas.{northern_agrees}
-use Rattle.tz_posix.proofs.SouthernLemmas.{southern_agrees}
-use Rattle.tz_posix.specs.FoundLaws.{entry_found}
-use Rattle.tz_posix.specs.TimeLaws.{day_times_read}
+use Rattle.zone_spans.specs.{Lines.{Rulesets}, Schedules.{schedule_of_lines, total_at}}
+use Rattle.tz_posix.proofs.{TwoRuleFiringLemmas.{wall_moment}, NorthernLemmas.{northern_agrees}, SouthernLemmas.{southern_agrees}}
 use Rattle.tz_posix.proofs.MonthPairLemmas.{AreInnerRules, IsInner, end_inside, northern_apart, northern_order, southern_apart, southern_order, start_inside}
+use Rattle.tz_posix.specs.{Agreement.{IsChange, IsNorthern, IsSameDay, IsSameTime, IsSouthern, IsTimeOfDay, RuledValue, SaysTheSame, TwoRuleZone, start_in, value_of, value_total, from_first, from_eighth, last_of_month}, DayLaws.{day-2100}}
+use Rattle.tz_posix.specs.Reading.{number_at, part_at, clock_time_at, sign_at, offset_at, letters_at, enclosed_at, name_at, weekday_at, date_at, moment_at, rule_in, own_offset_at, own_rule_in, dst_in, short_in, expanded_in, entry_in}
+use Rattle.tz_posix.specs.{RealPairs.{IsRuledBy, on_the_wall, lord_howe_rules, lord_howe_text, lord_howe_value, moldova_rules, moldova_text, moldova_value, new_york_text, new_york_value, us_rules}, InForce.{yearly_time}}
+use Rattle.tz_posix.specs.{Seconds.{IsWritten, east_of, offset_seconds, time_seconds}, declared.date.Date.{Date}, Spells.{Spells}, FoundLaws.{entry_found}, TimeLaws.{day_times_read}}
 
 pub new_york_spelled : Spells new_york_text (value_of new_york_value)
 unfolding

@@ -1,11 +1,7 @@
 -- A text may be cut after a run at its front.
-use Rattle.std.proofs.Common.{◌≡◌, ℕ, zero, suc, ◌<◌, Bool, true, false, List, length, refl, arith, add-one}
-use Rattle.std.proofs.lemmas.Bool.Decides.{nat_tests}
-use Rattle.std.proofs.lemmas.List.Sums.{prefix_len-le-length, prefix_len_passes, prefix_len_stops}
+use Rattle.std.proofs.{Common.{◌≡◌, ℕ, zero, suc, ◌<◌, Bool, true, false, List, length, refl, arith, add-one}, lemmas.Bool.Decides.{nat_tests}, lemmas.List.Sums.{prefix_len-le-length, prefix_len_passes, prefix_len_stops}}
 use Rattle.std.proofs.lemmas.Str.{IsCharBoundary-after_ascii, IsCharBoundary-start, IsCharBoundary-before_ascii}
-use Rattle.std.specs.Char.{is_ascii_digit, is_ascii_alphabetic}
-use Rattle.std.specs.List.{prefix_len}
-use Rattle.std.specs.Str.{IsUtf8, IsCharBoundary}
+use Rattle.std.specs.{Char.{is_ascii_digit, is_ascii_alphabetic}, List.{prefix_len}, Str.{IsUtf8, IsCharBoundary}}
 use Rattle.tz_posix.specs.Spells.{is_enclosed}
 
 pub digit_is_ascii : (b : ℕ) → is_ascii_digit b ≡ true → b < 128

@@ -1,20 +1,12 @@
 -- Where the end comes first in each year, the zone and the value agree from the first start on.
 use Rattle.std.proofs.Common.{◌≡◌, ℕ, zero, suc, ◌-◌, ◌<◌, inl, true, cond, [], ◌∷◌, Ok, refl, sym, ap, ◌∙◌, arith, ℤ, pos, ◌+ℤ◌, ◌≤ℤ◌, ◌<ℤ◌, int_le}
-use Rattle.basics.specs.ComparisonLaws.{le_from_lt, le_pass, le_same}
-use Rattle.basics.specs.SignedLaws.{signed}
+use Rattle.basics.specs.{ComparisonLaws.{le_from_lt, le_pass, le_same}, SignedLaws.{signed}}
 use Rattle.civil_base.specs.Instants.{seconds_of}
 use Rattle.zone_table.specs.Moments.{moment}
-use Rattle.zone_spans.specs.Compiled.{compiled}
-use Rattle.zone_spans.specs.Lines.{Rulesets}
-use Rattle.zone_spans.specs.Schedules.{schedule_of_lines, total_at, totals_of}
-use Rattle.tz_posix.specs.TwoRules.{AreInTurn, IsCompiled, IsInYear, first_at, saving_in, second_at, written, year_from}
-use Rattle.tz_posix.proofs.TwoRuleSetLemmas.{two_rules_compile}
-use Rattle.tz_posix.proofs.TwoRuleFiringLemmas.{wall_moment}
-use Rattle.tz_posix.proofs.TwoRuleTotalLemmas.{two_rules_total}
-use Rattle.zone_spans.specs.declared.span.FixedTimespanSet.{FixedTimespanSet}
-use Rattle.tz_posix.specs.Agreement.{IsFromFirstStart, IsInRuleYears, IsSouthern, RuledValue, SaysTheSame, TwoRuleZone, end_in, first_year, start_in, value_total}
+use Rattle.zone_spans.specs.{Compiled.{compiled}, Lines.{Rulesets}, Schedules.{schedule_of_lines, total_at, totals_of}, declared.span.FixedTimespanSet.{FixedTimespanSet}}
+use Rattle.tz_posix.specs.{TwoRules.{AreInTurn, IsCompiled, IsInYear, first_at, saving_in, second_at, written, year_from}, Agreement.{IsFromFirstStart, IsInRuleYears, IsSouthern, RuledValue, SaysTheSame, TwoRuleZone, end_in, first_year, start_in, value_total}}
 use Rattle.tz_posix.specs.InForce.{is_within}
-use Rattle.tz_posix.proofs.HemisphereLemmas.{southern_total, start_before_end, end_before_start, up_le, up_lt, later_end}
+use Rattle.tz_posix.proofs.{TwoRuleSetLemmas.{two_rules_compile}, TwoRuleFiringLemmas.{wall_moment}, TwoRuleTotalLemmas.{two_rules_total}, HemisphereLemmas.{southern_total, start_before_end, end_before_start, up_le, up_lt, later_end}}
 use Rattle.tz_posix.proofs.StandardYearLemmas.{years_before}
 use Rattle.tz_posix.proofs.AgreementLemmas.{a_start, an_end, at, compiled_line, differ, end-written, end_expandable, end_first, first_place, first_rule_year, found_place, in_order, known, line_of, schedule-is, start-written, start_expandable, value_total-is, year_of_place}
 

@@ -1,17 +1,12 @@
 -- The entries of a line of two yearly rules: each firing has one, and neither sorting nor the collapse changes them.
-use Rattle.std.proofs.Common.{◌≡◌, ℕ, zero, suc, ◌<◌, ◌≤◌, Bool, true, false, cond, ◌&&◌, List, [], ◌∷◌, ◌++◌, map, reverse, Some, None, ℤ, ◌+ℤ◌, ◌-ℤ◌, ◌<ℤ◌, ◌≤ℤ◌, int_le, refl, sym, ap, ◌∙◌, subst, arith, append-nil}
-use Rattle.std.proofs.lemmas.Int.{ints}
+use Rattle.std.proofs.{Common.{◌≡◌, ℕ, zero, suc, ◌<◌, ◌≤◌, Bool, true, false, cond, ◌&&◌, List, [], ◌∷◌, ◌++◌, map, reverse, Some, None, ℤ, ◌+ℤ◌, ◌-ℤ◌, ◌<ℤ◌, ◌≤ℤ◌, int_le, refl, sym, ap, ◌∙◌, subst, arith, append-nil}, lemmas.Int.{ints}}
 use Rattle.std.proofs.lemmas.List.{reverse-append, map-append}
-use Rattle.basics.specs.ComparisonLaws.{lt_fail}
-use Rattle.basics.specs.Sorted.{put_in, stable_sort}
+use Rattle.basics.specs.{ComparisonLaws.{lt_fail}, Sorted.{put_in, stable_sort}}
 use Rattle.zone_table.specs.declared.rule.RuleInfo.{RuleInfo}
 use Rattle.zone_spans.specs.Collapse.{is_same_span, is_no_later, kept_with, kept_of, EntryTimesDontFall}
-use Rattle.zone_spans.specs.Entries.{Entry, entry_of, entries_of, entries_of_over, entries_from_over, fixed_span, at_start, is_sooner, raw_entries, sorted_entries, sorted_entries_over, start_entry}
-use Rattle.zone_spans.specs.Firings.{Firing, firings}
-use Rattle.zone_spans.specs.Lines.{Line}
+use Rattle.zone_spans.specs.{Entries.{Entry, entry_of, entries_of, entries_of_over, entries_from_over, fixed_span, at_start, is_sooner, raw_entries, sorted_entries, sorted_entries_over, start_entry}, Firings.{Firing, firings}, Lines.{Line}}
 use Rattle.zone_spans.specs.Listing.{listed_firings}
-use Rattle.tz_posix.specs.TwoRules.{HasTwoRules, AreInTurn, first_at, second_at, year_from, written}
-use Rattle.tz_posix.proofs.TwoRuleFiringLemmas.{latest, two_rules_fire, wall_moment}
+use Rattle.tz_posix.{specs.TwoRules.{HasTwoRules, AreInTurn, first_at, second_at, year_from, written}, proofs.TwoRuleFiringLemmas.{latest, two_rules_fire, wall_moment}}
 
 pub map-reverse : (line : Line) (fs : List Firing) → map (entry_of line) (reverse fs) ≡ reverse (map (entry_of line) fs)
 map-reverse line [] = refl

@@ -1,23 +1,12 @@
 -- A line of two yearly rules, of which one has no saving, has a set of spans.
-use Rattle.std.proofs.Common.{◌≡◌, ℕ, zero, suc, ◌+◌, ◌<◌, ◌⊎◌, ⊎_elim, Bool, true, false, cond, not, ◌&&◌, ◌||◌, List, [], ◌∷◌, reverse, find, Some, None, Ok, refl, ap, ◌∙◌, arith, ℤ, pos, int_eq}
-use Rattle.std.specs.List.{list_any, list_all}
-use Rattle.std.specs.Option.{option_map}
-use Rattle.std.proofs.lemmas.List.{reverse-append}
-use Rattle.std.proofs.lemmas.List.Folds.{list_any-append}
-use Rattle.std.proofs.lemmas.Bool.{or_right}
-use Rattle.zone_table.specs.Moments.{has_years}
-use Rattle.zone_table.specs.declared.rule.RuleInfo.{RuleInfo}
-use Rattle.zone_table.specs.declared.zone.ZoneInfo.{ZoneInfo}
-use Rattle.zone_spans.specs.Collapse.{collapsed}
-use Rattle.zone_spans.specs.Compiled.{compiled, compiled_over, set_of, set_of_lines, set_of_lines_over, unless}
-use Rattle.zone_spans.specs.Entries.{Entry, first_span, fixed_span, is_standard, raw_entries, sorted_entries}
-use Rattle.zone_spans.specs.Faults.{schedule_fault, schedule_fault_over, first_met, is_outside, leaves_year_over, some_year}
-use Rattle.zone_spans.specs.Firings.{years_over}
-use Rattle.zone_spans.specs.Lines.{Line, Rulesets, is_known, is_ruled, rules_named, zone_lines}
-use Rattle.tz_posix.specs.TwoRules.{AreInTurn, HasTwoRules, IsCompiled}
-use Rattle.tz_posix.proofs.TwoRuleEntryLemmas.{first_entry, second_entry, entries, raw_is_entries, sorted_is}
-use Rattle.zone_spans.specs.declared.fault.SpanFault.TheVariants.{UnknownRuleset, MissingUntil, YearRange, RuleYears, DayRange, NoStandardSpan}
-use Rattle.zone_spans.specs.declared.span.FixedTimespanSet.{FixedTimespanSet}
+use Rattle.std.proofs.{Common.{◌≡◌, ℕ, zero, suc, ◌+◌, ◌<◌, ◌⊎◌, ⊎_elim, Bool, true, false, cond, not, ◌&&◌, ◌||◌, List, [], ◌∷◌, reverse, find, Some, None, Ok, refl, ap, ◌∙◌, arith, ℤ, pos, int_eq}, lemmas.List.{reverse-append}}
+use Rattle.std.proofs.lemmas.{List.Folds.{list_any-append}, Bool.{or_right}}
+use Rattle.std.specs.{List.{list_any, list_all}, Option.{option_map}}
+use Rattle.zone_table.specs.{Moments.{has_years}, declared.rule.RuleInfo.{RuleInfo}, declared.zone.ZoneInfo.{ZoneInfo}}
+use Rattle.zone_spans.specs.{Collapse.{collapsed}, Compiled.{compiled, compiled_over, set_of, set_of_lines, set_of_lines_over, unless}, Entries.{Entry, first_span, fixed_span, is_standard, raw_entries, sorted_entries}}
+use Rattle.zone_spans.specs.{Faults.{schedule_fault, schedule_fault_over, first_met, is_outside, leaves_year_over, some_year}, Firings.{years_over}, Lines.{Line, Rulesets, is_known, is_ruled, rules_named, zone_lines}}
+use Rattle.zone_spans.specs.declared.{fault.SpanFault.TheVariants.{UnknownRuleset, MissingUntil, YearRange, RuleYears, DayRange, NoStandardSpan}, span.FixedTimespanSet.{FixedTimespanSet}}
+use Rattle.tz_posix.{specs.TwoRules.{AreInTurn, HasTwoRules, IsCompiled}, proofs.TwoRuleEntryLemmas.{first_entry, second_entry, entries, raw_is_entries, sorted_is}}
 
 -- the years of the rule can be compared, and its day lies in each year that is expanded
 pub record IsExpandable (rule : RuleInfo) : Type 0 where

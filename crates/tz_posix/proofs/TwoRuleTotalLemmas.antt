@@ -1,24 +1,13 @@
 -- The total in force by a line of two yearly rules: in each year it goes by the two firings of that year.
 use Rattle.std.proofs.Common.{◌≡◌, ℕ, zero, suc, ◌<◌, ◌≤◌, Bool, true, false, cond, ◌&&◌, List, [], ◌∷◌, ◌++◌, map, filter, reverse, find, Some, None, Option, Ok, ℤ, pos, ◌+ℤ◌, ◌*ℤ◌, ◌<ℤ◌, ◌≤ℤ◌, int_le, int_eq, refl, sym, ap, ◌∙◌, subst, arith, ⊎_elim}
+use Rattle.std.proofs.lemmas.{Bool.{and_parts, cases_lt}, Bool.Decides.{Decides-int_eq}, List.{reverse-append}}
 use Rattle.std.specs.Option.{option_map}
-use Rattle.std.proofs.lemmas.Bool.{and_parts, cases_lt}
-use Rattle.std.proofs.lemmas.Bool.Decides.{Decides-int_eq}
-use Rattle.std.proofs.lemmas.List.{reverse-append}
-use Rattle.basics.specs.Bytes.{are_same_bytes}
-use Rattle.basics.specs.ComparisonLaws.{le_fail, le_pass, lt_le}
+use Rattle.basics.specs.{Bytes.{are_same_bytes}, ComparisonLaws.{le_fail, le_pass, lt_le}}
 use Rattle.civil_base.specs.Instants.{seconds_of}
 use Rattle.zone_table.specs.declared.rule.RuleInfo.{RuleInfo}
-use Rattle.zone_spans.specs.Collapse.{is_same_span, collapsed, kept_of, without_first}
-use Rattle.zone_spans.specs.Compiled.{set_of, set_of_lines, set_of_lines_over}
-use Rattle.zone_spans.specs.Entries.{Entry, total, entry_of, first_span, fixed_span, is_standard, sorted_entries}
-use Rattle.zone_spans.specs.Firings.{Firing}
-use Rattle.zone_spans.specs.Lines.{Line}
-use Rattle.zone_spans.specs.Schedules.{last_total, total_at, totals_of}
-use Rattle.tz_posix.specs.TwoRules.{HasTwoRules, AreInTurn, IsInYear, first_at, saving_before, saving_in, second_at}
-use Rattle.tz_posix.proofs.TwoRuleEntryLemmas.{all_kept, entries, map-reverse, sorted_is}
-use Rattle.tz_posix.proofs.TwoRuleFiringLemmas.{latest}
-use Rattle.zone_spans.specs.declared.span.FixedTimespan.{FixedTimespan}
-use Rattle.zone_spans.specs.declared.span.FixedTimespanSet.{FixedTimespanSet}
+use Rattle.zone_spans.specs.{Collapse.{is_same_span, collapsed, kept_of, without_first}, Compiled.{set_of, set_of_lines, set_of_lines_over}, Entries.{Entry, total, entry_of, first_span, fixed_span, is_standard, sorted_entries}, Firings.{Firing}, Lines.{Line}}
+use Rattle.zone_spans.specs.{Schedules.{last_total, total_at, totals_of}, declared.span.FixedTimespan.{FixedTimespan}, declared.span.FixedTimespanSet.{FixedTimespanSet}}
+use Rattle.tz_posix.{specs.TwoRules.{HasTwoRules, AreInTurn, IsInYear, first_at, saving_before, saving_in, second_at}, proofs.TwoRuleEntryLemmas.{all_kept, entries, map-reverse, sorted_is}, proofs.TwoRuleFiringLemmas.{latest}}
 use Rattle.tz_zone.specs.SecondLaws.{same_test}
 
 -- ---- totals by the second

@@ -1,13 +1,7 @@
 -- The days that dates name, on days that are known from outside.
 use Rattle.std.proofs.Common.{◌≡◌, refl, arith, ℕ, ◌-◌, [], ◌∷◌, map, Some, None, ℤ, pos}
-use Rattle.basics.specs.Days.{is_leap, days_in_year, days_in_month, days_after_zero, year_start, days_through, days_into_year, day, IsDate, IsCountedYear}
-use Rattle.basics.specs.Dates.{last_with}
-use Rattle.basics.specs.DateLaws.{month_of-day, day_of-day}
-use Rattle.basics.specs.SignedLaws.{signed}
-use Rattle.basics.specs.Weekdays.{weekday_of}
-use Rattle.tz_posix.specs.Days.{julian_day, nth_weekday, rule_day, day_refusal}
-use Rattle.tz_posix.specs.declared.date.Date.TheVariants.{N, M}
-use Rattle.tz_posix.specs.declared.error.Error.TheVariants.{ComponentRange, DateTooLarge}
+use Rattle.basics.specs.{Days.{is_leap, days_in_year, days_in_month, days_after_zero, year_start, days_through, days_into_year, day, IsDate, IsCountedYear}, Dates.{last_with}, DateLaws.{month_of-day, day_of-day}, SignedLaws.{signed}, Weekdays.{weekday_of}}
+use Rattle.tz_posix.specs.{Days.{julian_day, nth_weekday, rule_day, day_refusal}, declared.date.Date.TheVariants.{N, M}, declared.error.Error.TheVariants.{ComponentRange, DateTooLarge}}
 
 -- in 2024: the second Sunday of March, the first of November, the last Thursday of February, the fifth and the fourth of May
 worked_weekdays : nth_weekday (pos 2024) 3 2 0 ∷ nth_weekday (pos 2024) 11 1 0 ∷ nth_weekday (pos 2024) 2 5 4 ∷

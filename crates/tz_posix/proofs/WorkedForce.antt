@@ -1,23 +1,12 @@
 -- What rules give at instants that are known from outside.
-use Rattle.std.proofs.Common.{◌≡◌, refl, arith, ◌∙◌, ap, ℕ, Bool, ◌&&◌, nat_le, List, [], ◌∷◌, map, true, false, Option, Some, None, ℤ, pos, neg_ℤ, ◌+ℤ◌}
-use Rattle.std.proofs.lemmas.Bool.{and_parts, leb-true}
-use Rattle.std.specs.Int.{int_div_euclid}
-use Rattle.std.specs.Prelude.{codes}
-use Rattle.basics.specs.Dates.{last_with, year_of}
-use Rattle.basics.specs.DateLaws.{year_of-day}
-use Rattle.basics.specs.Days.{is_leap, days_in_year, days_in_month, days_after_zero, days_before_zero, year_start, days_through, days_into_year, day, IsCountedYear, IsDate}
-use Rattle.basics.specs.SignedLaws.{signed}
+use Rattle.std.{proofs.Common.{◌≡◌, refl, arith, ◌∙◌, ap, ℕ, Bool, ◌&&◌, nat_le, List, [], ◌∷◌, map, true, false, Option, Some, None, ℤ, pos, neg_ℤ, ◌+ℤ◌}, proofs.lemmas.Bool.{and_parts, leb-true}, specs.Int.{int_div_euclid}, specs.Prelude.{codes}}
+use Rattle.basics.specs.{Dates.{last_with, year_of}, DateLaws.{year_of-day}, Days.{is_leap, days_in_year, days_in_month, days_after_zero, days_before_zero, year_start, days_through, days_into_year, day, IsCountedYear, IsDate}, SignedLaws.{signed}}
 use Rattle.basics.specs.Weekdays.{weekday_of}
-use Rattle.tz_posix.specs.Days.{nth_weekday, rule_day, day_refusal}
-use Rattle.tz_posix.specs.InForce.{instant_in, is_saving, is_within, is_year, moment_of, moments_in, posix_total, rule_refusal, year_at, yearly_time}
-use Rattle.civil_base.specs.Instants.{seconds_of}
-use Rattle.tz_posix.specs.PosixZones.{Named, PosixZone, ruled, Given, Gives, posix_refusal}
-use Rattle.tz_posix.specs.Seconds.{offset_seconds, time_seconds}
-use Rattle.tz_posix.specs.Spells.{signed_times}
-use Rattle.tz_posix.specs.declared.date.Date.TheVariants.{J, N, M}
-use Rattle.tz_posix.specs.declared.error.Error.{Error}
+use Rattle.tz_posix.specs.{Days.{nth_weekday, rule_day, day_refusal}, InForce.{instant_in, is_saving, is_within, is_year, moment_of, moments_in, posix_total, rule_refusal, year_at, yearly_time}}
+use Rattle.tz_posix.specs.{PosixZones.{Named, PosixZone, ruled, Given, Gives, posix_refusal}, Seconds.{offset_seconds, time_seconds}, Spells.{signed_times}, declared.date.Date.TheVariants.{J, N, M}, declared.error.Error.{Error}}
 use Rattle.tz_posix.specs.declared.error.Error.TheVariants.{ComponentRange, DateTooLarge}
 use Rattle.tz_posix.proofs.WorkedDates.{julian_is}
+use Rattle.civil_base.specs.Instants.{seconds_of}
 
 -- a second of a day of a year lies in that year
 in_year : (y : ℤ) → IsCountedYear y → (m d : ℕ) → (nat_le 1 m && nat_le m 12 && nat_le 1 d && nat_le d (days_in_month y m)) ≡ true → (offset t : ℤ)

@@ -1,15 +1,8 @@
 -- Times in seconds and ranges, at worked rows.
 use Rattle.std.proofs.Common.{◌≡◌, refl, ℕ, [], ◌∷◌, map, true, false, Option, Some, None, pos, neg_ℤ}
-use Rattle.tz_posix.specs.Ranges.{first_miss, is_rule_date, is_time, posix_range, rule_time_miss}
-use Rattle.tz_posix.specs.Seconds.{time_seconds, offset_seconds, east_of}
-use Rattle.tz_posix.specs.Spells.{day_times, signed_times}
-use Rattle.tz_posix.specs.Values.{short, expanded}
-use Rattle.tz_posix.specs.declared.date.Date.{Date}
-use Rattle.tz_posix.specs.declared.date.Date.TheVariants.{J, N, M}
-use Rattle.tz_posix.specs.declared.error.RangeError.{RangeError}
+use Rattle.tz_posix.specs.{Ranges.{first_miss, is_rule_date, is_time, posix_range, rule_time_miss}, Seconds.{time_seconds, offset_seconds, east_of}, Spells.{day_times, signed_times}, Values.{short, expanded}, declared.date.Date.{Date}}
+use Rattle.tz_posix.specs.declared.{date.Date.TheVariants.{J, N, M}, error.RangeError.{RangeError}, time.Offset.{Offset}, time.Time.{Time}}
 use Rattle.tz_posix.specs.declared.error.RangeError.TheVariants as miss
-use Rattle.tz_posix.specs.declared.time.Offset.{Offset}
-use Rattle.tz_posix.specs.declared.time.Time.{Time}
 
 abbrev hours : ℕ → Time
 hours n = record { hh = n; mm = None; ss = None }

@@ -1,18 +1,8 @@
 -- What values stand for, over worked databases.
 use Rattle.std.proofs.Common.{◌≡◌, refl, ℕ, true, false, List, [], ◌∷◌, map, Option, Some, None, Result, Ok, Err, codes, ℤ, pos, neg_ℤ}
 use Rattle.tz_zone.specs.declared.set.FixedTimespanSet.{FixedTimespanSet}
-use Rattle.tz_posix.specs.InForce.{YearlyTime}
-use Rattle.tz_posix.specs.PosixShown.{IsAtOffset}
-use Rattle.tz_posix.specs.PosixZones.{Named, PosixZone, zone, fixed, ruled, borrowed, iana_of}
-use Rattle.tz_posix.specs.Resolved.{resolved}
-use Rattle.tz_posix.specs.Seconds.{offset_seconds, time_seconds}
-use Rattle.tz_posix.specs.Values.{short, expanded}
-use Rattle.tz_posix.specs.declared.date.Date.TheVariants.{J}
-use Rattle.tz_posix.specs.declared.error.Error.{Error}
-use Rattle.tz_posix.specs.declared.error.Error.TheVariants.{ComponentRange}
-use Rattle.tz_posix.specs.declared.time.Offset.{Offset}
-use Rattle.tz_posix.specs.declared.time.Time.{Time}
-use Rattle.tz_posix.specs.declared.values.Rule.{Rule}
+use Rattle.tz_posix.specs.{InForce.{YearlyTime}, PosixShown.{IsAtOffset}, PosixZones.{Named, PosixZone, zone, fixed, ruled, borrowed, iana_of}, Resolved.{resolved}, Seconds.{offset_seconds, time_seconds}, Values.{short, expanded}}
+use Rattle.tz_posix.specs.declared.{date.Date.TheVariants.{J}, error.Error.{Error}, error.Error.TheVariants.{ComponentRange}, time.Offset.{Offset}, time.Time.{Time}, values.Rule.{Rule}}
 
 abbrev west : ℕ → Offset
 west hours = record { positive = true; time = record { hh = hours; mm = None; ss = None } }

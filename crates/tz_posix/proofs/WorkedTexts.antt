@@ -2,9 +2,7 @@
 use Rattle.std.proofs.Common.{◌≡◌, refl, ℕ, true, false, [], ◌∷◌, map, replicate, Option, Some, None, codes}
 use Rattle.basics.specs.Numbers.{value_in}
 use Rattle.tz_posix.specs.Reading.{number_at, part_at, clock_time_at, sign_at, offset_at, letters_at, enclosed_at, name_at, weekday_at, date_at, moment_at, rule_in, own_offset_at, own_rule_in, dst_in, short_in, expanded_in, entry_in}
-use Rattle.tz_posix.specs.Values.{short, expanded}
-use Rattle.tz_posix.specs.declared.date.Date.TheVariants.{J, M}
-use Rattle.tz_posix.specs.declared.time.Time.{Time}
+use Rattle.tz_posix.specs.{Values.{short, expanded}, declared.date.Date.TheVariants.{J, M}, declared.time.Time.{Time}}
 
 abbrev time : ℕ → Option ℕ → Option ℕ → Time
 time hour minute second = record { hh = hour; mm = minute; ss = second }

@@ -1,15 +1,9 @@
 -- The years of day numbers, within the dates and past them.
-use Rattle.std.proofs.Common.{◌≡◌, ℕ, true, false, refl, ap, arith, ℤ, pos, neg_ℤ, ◌-ℤ◌, ◌≤ℤ◌, ◌<ℤ◌, int_le}
-use Rattle.std.proofs.lemmas.Bool.{and_from}
-use Rattle.std.proofs.lemmas.Int.{ints}
-use Rattle.basics.specs.Dates.{year_of, month_of, day_of}
-use Rattle.basics.specs.DateLaws.{last_with-is, day_parts, day-between, year-between}
-use Rattle.basics.specs.Days.{is_leap, days_in_year, days_in_month, days_after_zero, year_start, days_through, days_into_year, day, IsCountedYear}
-use Rattle.basics.specs.ComparisonLaws.{le_pass, le_fail}
-use Rattle.basics.specs.SignedLaws.{signed}
-use Rattle.civil_base.specs.Ranges.{first_day, last_day, IsDay, IsYear}
+use Rattle.std.proofs.{Common.{◌≡◌, ℕ, true, false, refl, ap, arith, ℤ, pos, neg_ℤ, ◌-ℤ◌, ◌≤ℤ◌, ◌<ℤ◌, int_le}, lemmas.Bool.{and_from}, lemmas.Int.{ints}}
+use Rattle.basics.specs.{Dates.{year_of, month_of, day_of}, DateLaws.{last_with-is, day_parts, day-between, year-between}, Days.{is_leap, days_in_year, days_in_month, days_after_zero, year_start, days_through, days_into_year, day, IsCountedYear}}
+use Rattle.basics.specs.{ComparisonLaws.{le_pass, le_fail}, SignedLaws.{signed}}
+use Rattle.civil_base.specs.{Ranges.{first_day, last_day, IsDay, IsYear}, DayRangeLaws.{day-first, day-last, counted, new_year}}
 use Rattle.tz_posix.specs.InForce.{is_year}
-use Rattle.civil_base.specs.DayRangeLaws.{day-first, day-last, counted, new_year}
 
 first_year : IsYear (neg_ℤ (pos 9999))
 first_year = record { first = omega (arith, signed); last = omega (arith, signed) }

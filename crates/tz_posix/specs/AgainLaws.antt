@@ -1,22 +1,12 @@
 -- What is spelled is read, whatever follows.
-use Rattle.std.proofs.Common.{◌≡◌, ℕ, ◌<◌, ◌^◌, Bool, true, false, List, [], ◌∷◌, ◌++◌, length, Option, Some, None, refl, arith, nat_eq, nat_le, take_while, lt-ltb, append_assoc, append-nil}
-use Rattle.std.proofs.lemmas.Bool.{and_parts}
-use Rattle.std.proofs.lemmas.Bool.Decides.{nat_tests}
+use Rattle.std.proofs.{Common.{◌≡◌, ℕ, ◌<◌, ◌^◌, Bool, true, false, List, [], ◌∷◌, ◌++◌, length, Option, Some, None, refl, arith, nat_eq, nat_le, take_while, lt-ltb, append_assoc, append-nil}, lemmas.Bool.{and_parts}, lemmas.Bool.Decides.{nat_tests}}
 use Rattle.std.proofs.lemmas.List.{take_at, drop_at}
-use Rattle.std.specs.Char.{is_ascii_digit, is_ascii_alphabetic}
-use Rattle.std.specs.List.{prefix_len, list_all}
-use Rattle.std.specs.Str.Parse.{digits_value}
-use Rattle.basics.specs.Marks.{after_mark}
-use Rattle.basics.specs.Numbers.{value_in}
+use Rattle.std.specs.{Char.{is_ascii_digit, is_ascii_alphabetic}, List.{prefix_len, list_all}, Str.Parse.{digits_value}}
+use Rattle.basics.specs.{Marks.{after_mark}, Numbers.{value_in}}
 use Rattle.tz_posix.specs.Marks.{colon, plus_sign, comma, minus_sign, dot, slash, less, greater, letter_J, letter_M}
 use Rattle.tz_posix.specs.Reading.{after_run, number_at, part_at, clock_time_at, offset_at, sign_at, letters_at, enclosed_at, name_at, weekday_at, date_at, moment_at, rule_in, is_over, own_offset_at, own_rule_in, dst_in, short_in, expanded_in, entry_in, AreRead}
 use Rattle.tz_posix.specs.Spells.{Optional, absent, present, SpellsNumber, SpellsTime, hours, minutes, seconds, SpellsOffset, bare, plus, minus, is_enclosed, SpellsName, enclosed, letters, SpellsDate, julian, counted, weekday, SpellsMoment, date, timed, SpellsRule, rule, SpellsDst, dst, SpellsIn, short_form, full_form, begins, goes_on, RunsAreLongest, TimeRange}
-use Rattle.tz_posix.specs.Values.{DstPart, Value}
-use Rattle.tz_posix.specs.declared.time.Time.{Time}
-use Rattle.tz_posix.specs.declared.time.Offset.{Offset}
-use Rattle.tz_posix.specs.declared.date.Date.{Date}
-use Rattle.tz_posix.specs.declared.date.Date.TheVariants.{M}
-use Rattle.tz_posix.specs.declared.values.Rule.{Rule}
+use Rattle.tz_posix.specs.{Values.{DstPart, Value}, declared.time.Time.{Time}, declared.time.Offset.{Offset}, declared.date.Date.{Date}, declared.date.Date.TheVariants.{M}, declared.values.Rule.{Rule}}
 
 pub stop_digit : (rest : List ℕ) → begins goes_on rest ≡ false → begins is_ascii_digit rest ≡ false
 stop_digit [] e = refl

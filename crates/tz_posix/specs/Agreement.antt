@@ -1,30 +1,12 @@
 -- A zone of two yearly rules, and the POSIX value that says the same.
-use Rattle.std.specs.Prelude.{◌≡◌, ℕ, ◌⊎◌, List, Some, ℤ, pos, ◌+ℤ◌, ◌*ℤ◌, ◌≤ℤ◌, ◌<ℤ◌}
-use Rattle.std.specs.Int.{int_max}
+use Rattle.std.specs.{Prelude.{◌≡◌, ℕ, ◌⊎◌, List, Some, ℤ, pos, ◌+ℤ◌, ◌*ℤ◌, ◌≤ℤ◌, ◌<ℤ◌}, Int.{int_max}}
 use Rattle.basics.specs.Days.{day}
-use Rattle.zone_values.specs.Months.{month_number}
-use Rattle.zone_values.specs.Weekdays.{weekday_number}
-use Rattle.zone_values.specs.declared.day.DaySpec.{DaySpec}
-use Rattle.zone_values.specs.declared.day.DaySpec.TheVariants.{Last, FirstOnOrAfter}
-use Rattle.zone_values.specs.declared.month.Month.{Month}
-use Rattle.zone_values.specs.declared.time.TimeType.TheVariants.{Wall}
-use Rattle.zone_values.specs.declared.weekday.Weekday.{Weekday}
-use Rattle.zone_values.specs.declared.year.Year.TheVariants.{Maximum, Number}
-use Rattle.zone_table.specs.Moments.{moment}
-use Rattle.zone_table.specs.declared.rule.RuleInfo.{RuleInfo}
-use Rattle.zone_table.specs.declared.zone.Saving.TheVariants.{Multiple}
-use Rattle.zone_table.specs.declared.zone.ZoneInfo.{ZoneInfo}
-use Rattle.zone_spans.specs.Lines.{Rulesets}
-use Rattle.zone_spans.specs.Years.{earliest_year, latest_year}
-use Rattle.tz_posix.specs.TwoRules.{AreBoth}
-use Rattle.tz_posix.specs.InForce.{YearlyTime, posix_total, yearly_time}
-use Rattle.tz_posix.specs.Seconds.{IsWritten, east_of}
-use Rattle.tz_posix.specs.Values.{TzValue, expanded}
-use Rattle.tz_posix.specs.declared.date.Date.{Date}
-use Rattle.tz_posix.specs.declared.date.Date.TheVariants.{M}
-use Rattle.tz_posix.specs.declared.time.Offset.{Offset}
-use Rattle.tz_posix.specs.declared.time.Time.{Time}
-use Rattle.tz_posix.specs.declared.values.Rule.{Rule}
+use Rattle.zone_values.specs.{Months.{month_number}, Weekdays.{weekday_number}, declared.day.DaySpec.{DaySpec}, declared.day.DaySpec.TheVariants.{Last, FirstOnOrAfter}, declared.month.Month.{Month}, declared.time.TimeType.TheVariants.{Wall}}
+use Rattle.zone_values.specs.declared.{weekday.Weekday.{Weekday}, year.Year.TheVariants.{Maximum, Number}}
+use Rattle.zone_table.specs.{Moments.{moment}, declared.rule.RuleInfo.{RuleInfo}, declared.zone.Saving.TheVariants.{Multiple}, declared.zone.ZoneInfo.{ZoneInfo}}
+use Rattle.zone_spans.specs.{Lines.{Rulesets}, Years.{earliest_year, latest_year}}
+use Rattle.tz_posix.specs.{TwoRules.{AreBoth}, InForce.{YearlyTime, posix_total, yearly_time}, Seconds.{IsWritten, east_of}, Values.{TzValue, expanded}, declared.date.Date.{Date}, declared.date.Date.TheVariants.{M}, declared.time.Offset.{Offset}}
+use Rattle.tz_posix.specs.declared.{time.Time.{Time}, values.Rule.{Rule}}
 
 -- a POSIX value with both offsets and a rule written
 pub record RuledValue : Type 0 where

@@ -1,15 +1,9 @@
 -- The days of a year's dates lie in the years, and the days of a year without February 29.
-use Rattle.std.proofs.Common.{◌≡◌, ℕ, ◌+◌, ◌-◌, ◌<◌, ◌≤◌, cond, true, false, ◌&&◌, nat_le, inl, inr, refl, arith, ℤ, pos, ◌+ℤ◌, ap}
-use Rattle.std.proofs.lemmas.Bool.{cases_lt, cases_Bool}
-use Rattle.std.proofs.lemmas.Bool.Decides.{nat_tests}
-use Rattle.basics.specs.Dates.{year_of, month_of, day_of}
-use Rattle.basics.specs.DateLaws.{day_parts, day-into_year, day-last_of_year, last_date, year-between}
-use Rattle.basics.specs.Days.{is_leap, days_in_year, days_in_month, days_after_zero, year_start, days_through, days_into_year, day, IsCountedYear, IsDate}
-use Rattle.basics.specs.MonthLaws.{days_in_month-january, days_in_month-february, days_through-late, days_through-two}
-use Rattle.basics.specs.SignedLaws.{signed}
-use Rattle.basics.specs.YearLaws.{days_in_year-cases}
-use Rattle.civil_base.specs.DayRangeLaws.{counted, date-inside, new_year}
-use Rattle.civil_base.specs.Ranges.{IsDay, IsYear}
+use Rattle.std.proofs.{Common.{◌≡◌, ℕ, ◌+◌, ◌-◌, ◌<◌, ◌≤◌, cond, true, false, ◌&&◌, nat_le, inl, inr, refl, arith, ℤ, pos, ◌+ℤ◌, ap}, lemmas.Bool.{cases_lt, cases_Bool}, lemmas.Bool.Decides.{nat_tests}}
+use Rattle.basics.specs.{Dates.{year_of, month_of, day_of}, DateLaws.{day_parts, day-into_year, day-last_of_year, last_date, year-between}}
+use Rattle.basics.specs.{Days.{is_leap, days_in_year, days_in_month, days_after_zero, year_start, days_through, days_into_year, day, IsCountedYear, IsDate}, MonthLaws.{days_in_month-january, days_in_month-february, days_through-late, days_through-two}}
+use Rattle.basics.specs.{SignedLaws.{signed}, YearLaws.{days_in_year-cases}}
+use Rattle.civil_base.specs.{DayRangeLaws.{counted, date-inside, new_year}, Ranges.{IsDay, IsYear}}
 use Rattle.tz_posix.specs.Days.{julian_day}
 
 -- and so have the days counted on from the first of January, as many as the year has

@@ -1,13 +1,7 @@
 -- The days that the dates of rules name, by counting days and weekdays.
-use Rattle.std.specs.Prelude.{ℕ, ◌+◌, ◌-◌, ◌*◌, ◌<◌, ◌≤◌, ◌≡◌, Bool, ◌&&◌, ◌==◌, nat_lt, nat_le, Option, Some, None, if◌then◌else◌, ℤ, pos, ◌+ℤ◌}
-use Rattle.std.specs.Ordering.{int_eq}
-use Rattle.basics.specs.Dates.{last_with, month_of, day_of}
-use Rattle.basics.specs.Days.{day, days_in_month, days_in_year}
-use Rattle.basics.specs.Weekdays.{weekday_of}
-use Rattle.tz_posix.specs.declared.date.Date.{Date}
-use Rattle.tz_posix.specs.declared.date.Date.TheVariants.{J, N, M}
-use Rattle.tz_posix.specs.declared.error.Error.{Error}
-use Rattle.tz_posix.specs.declared.error.Error.TheVariants.{ComponentRange, DateTooLarge}
+use Rattle.std.specs.{Prelude.{ℕ, ◌+◌, ◌-◌, ◌*◌, ◌<◌, ◌≤◌, ◌≡◌, Bool, ◌&&◌, ◌==◌, nat_lt, nat_le, Option, Some, None, if◌then◌else◌, ℤ, pos, ◌+ℤ◌}, Ordering.{int_eq}}
+use Rattle.basics.specs.{Dates.{last_with, month_of, day_of}, Days.{day, days_in_month, days_in_year}, Weekdays.{weekday_of}}
+use Rattle.tz_posix.specs.declared.{date.Date.{Date}, date.Date.TheVariants.{J, N, M}, error.Error.{Error}, error.Error.TheVariants.{ComponentRange, DateTooLarge}}
 
 -- the day whose month and day are those of the nth day of 1970, a year without February 29 that begins on day 0
 unfoldable pub julian_day : ℤ → ℕ → ℤ

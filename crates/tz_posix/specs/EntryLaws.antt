@@ -1,14 +1,6 @@
 -- The reading of a text is the value that it spells.
-use Rattle.std.proofs.Common.{◌≡◌, ℕ, List, Option, Some, None, option_map, MatchOption, sym, ◌∙◌}
-use Rattle.std.proofs.lemmas.Option.{same_Some, none-some}
-use Rattle.tz_posix.specs.AgainLaws.{entry_again}
-use Rattle.tz_posix.specs.FoundLaws.{entry_found}
-use Rattle.tz_posix.specs.Reading.{AreRead, entry_in}
-use Rattle.tz_posix.specs.Shown.{tz_shown}
-use Rattle.tz_posix.specs.Spells.{SpellsIn, TimeRange}
-use Rattle.tz_posix.specs.Values.{Value}
-use Rattle.tz_posix.specs.declared.values.Rule.{Rule}
-use Rattle.tz_posix.specs.declared.values.Tz.{Tz}
+use Rattle.std.proofs.{Common.{◌≡◌, ℕ, List, Option, Some, None, option_map, MatchOption, sym, ◌∙◌}, lemmas.Option.{same_Some, none-some}}
+use Rattle.tz_posix.specs.{AgainLaws.{entry_again}, FoundLaws.{entry_found}, Reading.{AreRead, entry_in}, Shown.{tz_shown}, Spells.{SpellsIn, TimeRange}, Values.{Value}, declared.values.Rule.{Rule}, declared.values.Tz.{Tz}}
 
 module _ {T : Type 0} {range : TimeRange T} {time_at : List ℕ → Option (T × List ℕ)} (reads : AreRead range time_at) (text : List ℕ) where
   pub exact : (r : Option (Tz (Rule T))) → option_map tz_shown r ≡ entry_in time_at text

@@ -1,26 +1,12 @@
 -- What is read is spelled.
 use Rattle.std.proofs.Common.{◌≡◌, ℕ, ◌<◌, ◌≤◌, Bool, true, false, cond, ◌⊎◌, inl, inr, List, [], ◌∷◌, ◌++◌, length, Option, Some, None, refl, sym, ap, subst, ◌∙◌, arith, nat_lt, nat_eq, nat_le, take_while, eqb-true, ltb-true, append_assoc, append-nil}
-use Rattle.std.proofs.lemmas.Bool.{and_parts}
-use Rattle.std.proofs.lemmas.Bool.Decides.{nat_tests}
-use Rattle.std.proofs.lemmas.List.{take-append-drop, nil_from_length}
-use Rattle.std.proofs.lemmas.List.Sums.{take_while-cons}
-use Rattle.std.proofs.lemmas.Option.{cond_some, same_Some, none-some}
-use Rattle.std.specs.Char.{is_ascii_digit, is_ascii_alphabetic}
-use Rattle.std.specs.List.{prefix_len, list_all}
-use Rattle.std.specs.Option.{option_map_or}
-use Rattle.std.specs.Str.Parse.{digits_value}
-use Rattle.basics.specs.LogicLaws.{map_some, bind_some}
-use Rattle.basics.specs.Marks.{after_mark}
-use Rattle.basics.specs.Numbers.{value_in}
+use Rattle.std.proofs.lemmas.{Bool.{and_parts}, Bool.Decides.{nat_tests}, List.{take-append-drop, nil_from_length}, List.Sums.{take_while-cons}, Option.{cond_some, same_Some, none-some}}
+use Rattle.std.specs.{Char.{is_ascii_digit, is_ascii_alphabetic}, List.{prefix_len, list_all}, Option.{option_map_or}, Str.Parse.{digits_value}}
+use Rattle.basics.specs.{LogicLaws.{map_some, bind_some}, Marks.{after_mark}, Numbers.{value_in}}
 use Rattle.tz_posix.specs.Marks.{colon, plus_sign, comma, minus_sign, dot, slash, less, greater, letter_J, letter_M}
 use Rattle.tz_posix.specs.Reading.{after_run, number_at, part_at, seconds_at, clock_time_at, offset_at, sign_at, letters_at, enclosed_at, name_at, day_at, weekday_at, date_at, date_time_at, moment_at, rule_in, is_over, own_offset_at, own_rule_in, dst_in, short_in, expanded_in, entry_in, AreRead, Takes, takes}
 use Rattle.tz_posix.specs.Spells.{Optional, absent, present, SpellsNumber, SpellsTime, hours, minutes, seconds, SpellsOffset, bare, plus, minus, is_enclosed, SpellsName, enclosed, letters, SpellsDate, julian, counted, weekday, SpellsMoment, date, timed, SpellsRule, rule, SpellsDst, dst, SpellsIn, TimeRange, short_form, full_form}
-use Rattle.tz_posix.specs.Values.{DstPart, Value, short, expanded}
-use Rattle.tz_posix.specs.declared.time.Time.{Time}
-use Rattle.tz_posix.specs.declared.time.Offset.{Offset}
-use Rattle.tz_posix.specs.declared.date.Date.{Date}
-use Rattle.tz_posix.specs.declared.date.Date.TheVariants.{J, N, M}
-use Rattle.tz_posix.specs.declared.values.Rule.{Rule}
+use Rattle.tz_posix.specs.{Values.{DstPart, Value, short, expanded}, declared.time.Time.{Time}, declared.time.Offset.{Offset}, declared.date.Date.{Date}, declared.date.Date.TheVariants.{J, N, M}, declared.values.Rule.{Rule}}
 
 -- what passes at the front passes
 pub run_passes : (p : ℕ → Bool) (text : List ℕ) → list_all p (take_while p text) ≡ true

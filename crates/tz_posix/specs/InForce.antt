@@ -1,15 +1,7 @@
 -- When daylight saving time is in force by a rule. Instants are seconds from 1970-01-01 00:00 UTC.
-use Rattle.std.specs.Prelude.{Bool, ◌&&◌, ◌||◌, [], ◌∷◌, Option, Some, if◌then◌else◌, ℤ, pos, neg_ℤ, ◌+ℤ◌, ◌-ℤ◌, ◌*ℤ◌, int_le, int_lt}
-use Rattle.std.specs.Int.{int_div_euclid}
-use Rattle.std.specs.Option.{option_map_or}
+use Rattle.std.specs.{Prelude.{Bool, ◌&&◌, ◌||◌, [], ◌∷◌, Option, Some, if◌then◌else◌, ℤ, pos, neg_ℤ, ◌+ℤ◌, ◌-ℤ◌, ◌*ℤ◌, int_le, int_lt}, Int.{int_div_euclid}, Option.{option_map_or}}
 use Rattle.basics.specs.Dates.{year_of}
-use Rattle.tz_posix.specs.Days.{rule_day, day_refusal}
-use Rattle.tz_posix.specs.Ranges.{first_some}
-use Rattle.tz_posix.specs.Spells.{TimeRange, day_times}
-use Rattle.tz_posix.specs.declared.date.Date.{Date}
-use Rattle.tz_posix.specs.declared.error.Error.{Error}
-use Rattle.tz_posix.specs.declared.error.Error.TheVariants.{ComponentRange}
-use Rattle.tz_posix.specs.declared.time.Time.{Time}
+use Rattle.tz_posix.specs.{Days.{rule_day, day_refusal}, Ranges.{first_some}, Spells.{TimeRange, day_times}, declared.date.Date.{Date}, declared.error.Error.{Error}, declared.error.Error.TheVariants.{ComponentRange}, declared.time.Time.{Time}}
 
 -- a day of each year, and the seconds from its midnight, which may be below 0
 abbrev pub YearlyTime : Type 0

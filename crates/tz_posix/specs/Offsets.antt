@@ -2,10 +2,7 @@
 use Rattle.std.specs.Prelude.{int_lt, pos}
 use Rattle.tz_lookup.specs.Zones.{span_shown, total_shown}
 use Rattle.tz_zone.specs.declared.tz.TzOffset.{TzOffset}
-use Rattle.tz_posix.specs.PosixZones.{Given}
-use Rattle.tz_posix.specs.declared.offset.PosixTzOffset.{PosixTzOffset}
-use Rattle.tz_posix.specs.declared.offset.Source.{Source}
-use Rattle.tz_posix.specs.declared.offset.Source.TheVariants.{Zone, Text}
+use Rattle.tz_posix.specs.{PosixZones.{Given}, declared.offset.PosixTzOffset.{PosixTzOffset}, declared.offset.Source.{Source}, declared.offset.Source.TheVariants.{Zone, Text}}
 
 -- the offset of a zone's span
 abbrev pub zone_given : TzOffset → Given

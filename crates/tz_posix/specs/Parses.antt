@@ -1,14 +1,7 @@
 -- What a text is parsed as over the zones of a database, and why it is refused.
 use Rattle.std.specs.Prelude.{◌≡◌, ℕ, List, Some, None, Result, Ok, Err}
 use Rattle.tz_zone.specs.declared.set.FixedTimespanSet.{FixedTimespanSet}
-use Rattle.tz_posix.specs.PosixShown.{posix_of}
-use Rattle.tz_posix.specs.PosixZones.{PosixZone}
-use Rattle.tz_posix.specs.Ranges.{posix_range}
-use Rattle.tz_posix.specs.Resolved.{resolved}
-use Rattle.tz_posix.specs.Spells.{Spells}
-use Rattle.tz_posix.specs.Values.{TzValue}
-use Rattle.tz_posix.specs.declared.error.ParseError.{ParseError}
-use Rattle.tz_posix.specs.declared.error.ParseError.TheVariants.{Grammar, UnknownName, Range}
+use Rattle.tz_posix.specs.{PosixShown.{posix_of}, PosixZones.{PosixZone}, Ranges.{posix_range}, Resolved.{resolved}, Spells.{Spells}, Values.{TzValue}, declared.error.ParseError.{ParseError}, declared.error.ParseError.TheVariants.{Grammar, UnknownName, Range}}
 use Rattle.tz_posix.specs.declared.posix.PosixTz.{PosixTz}
 
 -- the value of a text that has all parts in their ranges

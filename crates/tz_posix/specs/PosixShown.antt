@@ -1,18 +1,9 @@
 -- What is seen of a time zone by a text.
 use Rattle.std.specs.Prelude.{◌≡◌, Option, Some, None, Result, Err, is_ok, MatchResult, ℤ}
-use Rattle.civil_base.specs.DateTimes.{instant, offset_of}
-use Rattle.civil_base.specs.Instants.{local_at}
-use Rattle.civil_base.specs.Ranges.{is_in_years}
-use Rattle.civil_base.specs.declared.offset_date_time.OffsetDateTime.{OffsetDateTime}
+use Rattle.civil_base.specs.{DateTimes.{instant, offset_of}, Instants.{local_at}, Ranges.{is_in_years}, declared.offset_date_time.OffsetDateTime.{OffsetDateTime}}
 use Rattle.tz_lookup.specs.Zones.{set_of}
-use Rattle.tz_posix.specs.NamedShown.{named_of}
-use Rattle.tz_posix.specs.PosixZones.{PosixZone, zone, fixed, ruled, borrowed, Given, Gives, posix_refusal}
-use Rattle.tz_posix.specs.Yearly.{time_shown}
-use Rattle.tz_posix.specs.declared.error.Error.{Error}
-use Rattle.tz_posix.specs.declared.error.Error.TheVariants.{ComponentRange}
-use Rattle.tz_posix.specs.declared.posix.Kind.{Kind}
-use Rattle.tz_posix.specs.declared.posix.Kind.TheVariants.{Zone, Fixed, Ruled, Borrowed}
-use Rattle.tz_posix.specs.declared.posix.PosixTz.{PosixTz}
+use Rattle.tz_posix.specs.{NamedShown.{named_of}, PosixZones.{PosixZone, zone, fixed, ruled, borrowed, Given, Gives, posix_refusal}, Yearly.{time_shown}, declared.error.Error.{Error}, declared.error.Error.TheVariants.{ComponentRange}}
+use Rattle.tz_posix.specs.declared.posix.{Kind.{Kind}, Kind.TheVariants.{Zone, Fixed, Ruled, Borrowed}, PosixTz.{PosixTz}}
 
 abbrev pub kind_shown : Kind → PosixZone
 kind_shown (Zone tz) = zone (set_of tz)

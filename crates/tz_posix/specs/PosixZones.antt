@@ -2,11 +2,9 @@
 use Rattle.std.specs.Prelude.{◌≡◌, Bool, false, List, ℕ, Option, None, Some, if◌then◌else◌, ℤ}
 use Rattle.civil_base.specs.Instants.{seconds_of}
 use Rattle.zone_spans.specs.Schedules.{total_at}
-use Rattle.tz_lookup.specs.InForce.{GivesAt}
-use Rattle.tz_lookup.specs.Sets.{schedule_of}
+use Rattle.tz_lookup.specs.{InForce.{GivesAt}, Sets.{schedule_of}}
 use Rattle.tz_zone.specs.declared.set.FixedTimespanSet.{FixedTimespanSet}
-use Rattle.tz_posix.specs.InForce.{YearlyTime, is_saving, posix_total, rule_refusal}
-use Rattle.tz_posix.specs.declared.error.Error.{Error}
+use Rattle.tz_posix.specs.{InForce.{YearlyTime, is_saving, posix_total, rule_refusal}, declared.error.Error.{Error}}
 
 -- an abbreviation, and the seconds east of UTC
 pub record Named : Type 0 where

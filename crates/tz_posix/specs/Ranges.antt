@@ -1,15 +1,8 @@
 -- Which parts of a value are in their ranges, and the first that isn't.
 use Rattle.std.specs.Prelude.{ℕ, Bool, ◌&&◌, nat_le, List, [], ◌∷◌, Option, Some, None, option_and_then, if◌then◌else◌}
-use Rattle.tz_posix.specs.Seconds.{part}
-use Rattle.tz_posix.specs.Spells.{TimeRange, day_times}
-use Rattle.tz_posix.specs.Values.{TzValue, Value, short, expanded}
-use Rattle.tz_posix.specs.declared.date.Date.{Date}
-use Rattle.tz_posix.specs.declared.date.Date.TheVariants.{J, N, M}
-use Rattle.tz_posix.specs.declared.error.RangeError.{RangeError}
+use Rattle.tz_posix.specs.{Seconds.{part}, Spells.{TimeRange, day_times}, Values.{TzValue, Value, short, expanded}, declared.date.Date.{Date}, declared.date.Date.TheVariants.{J, N, M}, declared.error.RangeError.{RangeError}, declared.time.Offset.{Offset}}
+use Rattle.tz_posix.specs.declared.{time.Time.{Time}, values.Rule.{Rule}}
 use Rattle.tz_posix.specs.declared.error.RangeError.TheVariants as miss
-use Rattle.tz_posix.specs.declared.time.Offset.{Offset}
-use Rattle.tz_posix.specs.declared.time.Time.{Time}
-use Rattle.tz_posix.specs.declared.values.Rule.{Rule}
 
 -- from the least to the greatest
 abbrev pub is_from : ℕ → ℕ → ℕ → Bool

@@ -1,19 +1,9 @@
 -- The parts at the front of a text, each with the rest, as the code reads them.
-use Rattle.std.specs.Prelude.{◌≡◌, ℕ, Bool, ◌++◌, true, false, ◌&&◌, List, [], ◌∷◌, length, take_while, drop, Option, Some, None, option_map, option_and_then, nat_le, nat_eq, if◌then◌else◌, ◌==◌}
-use Rattle.std.specs.Char.{is_ascii_digit, is_ascii_alphabetic}
-use Rattle.std.specs.List.{prefix_len}
-use Rattle.std.specs.Option.{option_map_or}
-use Rattle.std.specs.Borrow.{Bor}
-use Rattle.basics.specs.Marks.{after_mark}
-use Rattle.basics.specs.Numbers.{value_in}
-use Rattle.tz_posix.specs.declared.time.Time.{Time}
-use Rattle.tz_posix.specs.declared.time.Offset.{Offset}
-use Rattle.tz_posix.specs.declared.date.Date.{Date}
-use Rattle.tz_posix.specs.declared.date.Date.TheVariants.{J, N, M}
-use Rattle.tz_posix.specs.declared.values.Rule.{Rule}
-use Rattle.tz_posix.specs.Marks.{plus_sign, comma, minus_sign, dot, slash, colon, less, greater, letter_J, letter_M}
-use Rattle.tz_posix.specs.Spells.{is_enclosed, TimeRange, begins, goes_on}
-use Rattle.tz_posix.specs.Values.{DstPart, Value, short, expanded}
+use Rattle.std.specs.{Prelude.{◌≡◌, ℕ, Bool, ◌++◌, true, false, ◌&&◌, List, [], ◌∷◌, length, take_while, drop, Option, Some, None, option_map, option_and_then, nat_le, nat_eq, if◌then◌else◌, ◌==◌}, Char.{is_ascii_digit, is_ascii_alphabetic}, List.{prefix_len}}
+use Rattle.std.specs.{Option.{option_map_or}, Borrow.{Bor}}
+use Rattle.basics.specs.{Marks.{after_mark}, Numbers.{value_in}}
+use Rattle.tz_posix.specs.declared.{time.Time.{Time}, time.Offset.{Offset}, date.Date.{Date}, date.Date.TheVariants.{J, N, M}, values.Rule.{Rule}}
+use Rattle.tz_posix.specs.{Marks.{plus_sign, comma, minus_sign, dot, slash, colon, less, greater, letter_J, letter_M}, Spells.{is_enclosed, TimeRange, begins, goes_on}, Values.{DstPart, Value, short, expanded}}
 
 infixl 10 ◌>>=◌
 abbrev pub ◌>>=◌ : {A B : Type 0} → Option A → (A → Option B) → Option B

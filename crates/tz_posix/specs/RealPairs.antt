@@ -1,20 +1,10 @@
 -- Three pairs of yearly rules of the tz database, each as a ruleset of these two rules alone, and the string that says the same.
 use Rattle.std.specs.Prelude.{◌≡◌, ℕ, true, false, List, Option, Some, None, codes, ℤ, pos}
-use Rattle.zone_values.specs.declared.day.DaySpec.{DaySpec}
-use Rattle.zone_values.specs.declared.day.DaySpec.TheVariants.{FirstOnOrAfter, Last}
-use Rattle.zone_values.specs.declared.month.Month.{Month}
-use Rattle.zone_values.specs.declared.month.Month.TheVariants.{March, April, October, November}
-use Rattle.zone_values.specs.declared.time.TimeType.TheVariants.{Wall}
-use Rattle.zone_values.specs.declared.weekday.Weekday.TheVariants.{Sunday}
-use Rattle.zone_values.specs.declared.year.Year.TheVariants.{Maximum, Number}
-use Rattle.zone_table.specs.declared.rule.RuleInfo.{RuleInfo}
-use Rattle.zone_table.specs.declared.zone.Saving.TheVariants.{Multiple}
-use Rattle.zone_table.specs.declared.zone.ZoneInfo.{ZoneInfo}
+use Rattle.zone_values.specs.declared.{day.DaySpec.{DaySpec}, day.DaySpec.TheVariants.{FirstOnOrAfter, Last}, month.Month.{Month}, month.Month.TheVariants.{March, April, October, November}, time.TimeType.TheVariants.{Wall}}
+use Rattle.zone_values.specs.declared.{weekday.Weekday.TheVariants.{Sunday}, year.Year.TheVariants.{Maximum, Number}}
+use Rattle.zone_table.specs.declared.{rule.RuleInfo.{RuleInfo}, zone.Saving.TheVariants.{Multiple}, zone.ZoneInfo.{ZoneInfo}}
 use Rattle.zone_spans.specs.Lines.{Rulesets}
-use Rattle.tz_posix.specs.TwoRules.{AreBoth}
-use Rattle.tz_posix.specs.Agreement.{RuledValue, TwoRuleZone}
-use Rattle.tz_posix.specs.declared.date.Date.TheVariants.{M}
-use Rattle.tz_posix.specs.declared.time.Offset.{Offset}
+use Rattle.tz_posix.specs.{TwoRules.{AreBoth}, Agreement.{RuledValue, TwoRuleZone}, declared.date.Date.TheVariants.{M}, declared.time.Offset.{Offset}}
 
 -- a rule from a year on to max, so many seconds after midnight by the wall's clock
 abbrev pub on_the_wall : ℤ → Month → DaySpec → ℤ → ℤ → Option (List ℕ) → RuleInfo

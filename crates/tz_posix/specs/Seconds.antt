@@ -1,8 +1,7 @@
 -- Times and offsets in seconds.
 use Rattle.std.specs.Prelude.{ℕ, ◌+◌, ◌*◌, not, Option, unwrap_or, ℤ, pos, neg_ℤ, ◌≤ℤ◌}
 use Rattle.civil_base.specs.Offsets.{signed_by}
-use Rattle.tz_posix.specs.declared.time.Offset.{Offset}
-use Rattle.tz_posix.specs.declared.time.Time.{Time}
+use Rattle.tz_posix.specs.declared.time.{Offset.{Offset}, Time.{Time}}
 
 -- minutes and seconds that are not written are 0
 abbrev pub part : Option ℕ → ℕ

@@ -1,11 +1,6 @@
 -- What the values of the code show.
 use Rattle.std.specs.Prelude.{option_map}
-use Rattle.tz_posix.specs.Values.{StdPart, DstPart, Value, short, expanded}
-use Rattle.tz_posix.specs.declared.values.Rule.{Rule}
-use Rattle.tz_posix.specs.declared.values.Std.{Std}
-use Rattle.tz_posix.specs.declared.values.Dst.{Dst}
-use Rattle.tz_posix.specs.declared.values.Tz.{Tz}
-use Rattle.tz_posix.specs.declared.values.Tz.TheVariants.{Short, Expanded}
+use Rattle.tz_posix.specs.{Values.{StdPart, DstPart, Value, short, expanded}, declared.values.Rule.{Rule}, declared.values.Std.{Std}, declared.values.Dst.{Dst}, declared.values.Tz.{Tz}, declared.values.Tz.TheVariants.{Short, Expanded}}
 
 abbrev pub std_shown : Std → StdPart
 std_shown s = record { name = s.name.now; offset = s.offset }

@@ -1,18 +1,9 @@
 -- The texts of values, each whole text cut into its parts. No part has to be told apart from the next: what follows a number
 -- is `:`, `.`, `/`, `,`, a name or the end, so a number is the longest run of digits there. What follows a name is an offset,
 -- `,` or the end, so a name without brackets is the longest run of letters there.
-use Rattle.std.specs.Prelude.{◌≡◌, ℕ, ◌<◌, ◌≤◌, ◌^◌, Bool, true, false, ◌&&◌, ◌||◌, ◌==◌, nat_eq, not, List, [], ◌∷◌, ◌++◌, length, Option, Some, None, ℤ, pos}
-use Rattle.std.specs.Char.{is_ascii_digit, is_ascii_alphabetic}
-use Rattle.std.specs.List.{list_all}
-use Rattle.std.specs.Str.Parse.{digits_value}
-use Rattle.tz_posix.specs.Marks.{plus_sign, comma, minus_sign, dot, slash, colon, less, greater, letter_J, letter_M}
-use Rattle.tz_posix.specs.Seconds.{offset_seconds, time_seconds}
-use Rattle.tz_posix.specs.Values.{DstPart, TzValue, Value, short, expanded}
-use Rattle.tz_posix.specs.declared.time.Time.{Time}
-use Rattle.tz_posix.specs.declared.time.Offset.{Offset}
-use Rattle.tz_posix.specs.declared.date.Date.{Date}
-use Rattle.tz_posix.specs.declared.date.Date.TheVariants.{J, N, M}
-use Rattle.tz_posix.specs.declared.values.Rule.{Rule}
+use Rattle.std.specs.{Prelude.{◌≡◌, ℕ, ◌<◌, ◌≤◌, ◌^◌, Bool, true, false, ◌&&◌, ◌||◌, ◌==◌, nat_eq, not, List, [], ◌∷◌, ◌++◌, length, Option, Some, None, ℤ, pos}, Char.{is_ascii_digit, is_ascii_alphabetic}, List.{list_all}, Str.Parse.{digits_value}}
+use Rattle.tz_posix.specs.{Marks.{plus_sign, comma, minus_sign, dot, slash, colon, less, greater, letter_J, letter_M}, Seconds.{offset_seconds, time_seconds}, Values.{DstPart, TzValue, Value, short, expanded}, declared.time.Time.{Time}}
+use Rattle.tz_posix.specs.declared.{time.Offset.{Offset}, date.Date.{Date}, date.Date.TheVariants.{J, N, M}, values.Rule.{Rule}}
 
 -- nothing, or a text of the value
 pub data Optional {V : Type 0} (Is : List ℕ → V → Type 0) : List ℕ → Option V → Type 0 where

@@ -1,8 +1,5 @@
 -- The times of a day and those with a sign are read as they are written.
-use Rattle.tz_posix.specs.AgainLaws.{offset_again, time_again}
-use Rattle.tz_posix.specs.FoundLaws.{offset_found, time_found}
-use Rattle.tz_posix.specs.Reading.{AreRead, clock_time_at, offset_at}
-use Rattle.tz_posix.specs.Spells.{day_times, signed_times}
+use Rattle.tz_posix.specs.{AgainLaws.{offset_again, time_again}, FoundLaws.{offset_found, time_found}, Reading.{AreRead, clock_time_at, offset_at}, Spells.{day_times, signed_times}}
 
 pub day_times_read : AreRead day_times clock_time_at
 day_times_read = record { again = time_again; found = time_found }

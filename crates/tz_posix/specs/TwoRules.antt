@@ -1,16 +1,8 @@
 -- A line of two yearly rules f and g: when each fires, where f comes before g in each year, and the saving then in force.
-use Rattle.std.specs.Prelude.{◌≡◌, ℕ, zero, suc, ◌+◌, ◌<◌, ◌⊎◌, false, true, List, [], ◌∷◌, None, Ok, if◌then◌else◌, ℤ, pos, ◌+ℤ◌, ◌*ℤ◌, ◌≤ℤ◌, ◌<ℤ◌, int_le}
-use Rattle.std.specs.Ordering.{int_eq}
-use Rattle.zone_values.specs.Days.{named_day}
-use Rattle.zone_values.specs.declared.time.TimeType.TheVariants.{Wall}
-use Rattle.zone_table.specs.Moments.{moment, applies_to_year}
-use Rattle.zone_table.specs.declared.rule.RuleInfo.{RuleInfo}
-use Rattle.zone_table.specs.declared.zone.ZoneInfo.{ZoneInfo}
-use Rattle.zone_spans.specs.Compiled.{compiled}
-use Rattle.zone_spans.specs.Firings.{Firing}
-use Rattle.zone_spans.specs.Lines.{Line, Rulesets, is_ruled}
-use Rattle.zone_spans.specs.Years.{earliest_year, most_years}
-use Rattle.zone_spans.specs.declared.span.FixedTimespanSet.{FixedTimespanSet}
+use Rattle.std.specs.{Prelude.{◌≡◌, ℕ, zero, suc, ◌+◌, ◌<◌, ◌⊎◌, false, true, List, [], ◌∷◌, None, Ok, if◌then◌else◌, ℤ, pos, ◌+ℤ◌, ◌*ℤ◌, ◌≤ℤ◌, ◌<ℤ◌, int_le}, Ordering.{int_eq}}
+use Rattle.zone_values.specs.{Days.{named_day}, declared.time.TimeType.TheVariants.{Wall}}
+use Rattle.zone_table.specs.{Moments.{moment, applies_to_year}, declared.rule.RuleInfo.{RuleInfo}, declared.zone.ZoneInfo.{ZoneInfo}}
+use Rattle.zone_spans.specs.{Compiled.{compiled}, Firings.{Firing}, Lines.{Line, Rulesets, is_ruled}, Years.{earliest_year, most_years}, declared.span.FixedTimespanSet.{FixedTimespanSet}}
 
 -- the two rules, listed in either order
 abbrev pub AreBoth : RuleInfo → RuleInfo → List RuleInfo → Type 0

@@ -1,8 +1,6 @@
 -- What a text says, with names by their bytes.
 use Rattle.std.specs.Prelude.{ℕ, List, Option}
-use Rattle.tz_posix.specs.declared.time.Offset.{Offset}
-use Rattle.tz_posix.specs.declared.time.Time.{Time}
-use Rattle.tz_posix.specs.declared.values.Rule.{Rule}
+use Rattle.tz_posix.specs.declared.{time.Offset.{Offset}, time.Time.{Time}, values.Rule.{Rule}}
 
 pub record StdPart : Type 0 where
   pub name : List ℕ

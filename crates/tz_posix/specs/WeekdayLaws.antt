@@ -1,14 +1,7 @@
 -- The nth day of a month with a weekday.
-use Rattle.std.proofs.Common.{◌≡◌, ℕ, ◌+◌, ◌-◌, ◌*◌, ◌%◌, ◌<◌, ◌≤◌, false, inl, inr, refl, arith, IsTrue, ℤ, nat_eq}
-use Rattle.std.proofs.lemmas.Bool.{and_parts, cases_lt, leb-true}
-use Rattle.std.proofs.lemmas.Bool.Decides.{nat_tests}
-use Rattle.basics.specs.Days.{day, days_in_month, IsCountedYear, IsDate}
-use Rattle.basics.specs.MonthLaws.{days_in_month-bounds}
-use Rattle.basics.specs.WeekdayLaws.{last_with_weekday, weekday_of-small}
-use Rattle.basics.specs.Weekdays.{weekday_of}
-use Rattle.tz_posix.specs.Days.{nth_weekday, IsNth}
-use Rattle.tz_posix.specs.Ranges.{is_from, is_rule_date}
-use Rattle.tz_posix.specs.declared.date.Date.TheVariants.{M}
+use Rattle.std.proofs.{Common.{◌≡◌, ℕ, ◌+◌, ◌-◌, ◌*◌, ◌%◌, ◌<◌, ◌≤◌, false, inl, inr, refl, arith, IsTrue, ℤ, nat_eq}, lemmas.Bool.{and_parts, cases_lt, leb-true}, lemmas.Bool.Decides.{nat_tests}}
+use Rattle.basics.specs.{Days.{day, days_in_month, IsCountedYear, IsDate}, MonthLaws.{days_in_month-bounds}, WeekdayLaws.{last_with_weekday, weekday_of-small}, Weekdays.{weekday_of}}
+use Rattle.tz_posix.specs.{Days.{nth_weekday, IsNth}, Ranges.{is_from, is_rule_date}, declared.date.Date.TheVariants.{M}}
 
 pub first_weekday-is : (y : ℤ) (m w : ℕ) → IsCountedYear y → w < 7
     → nth_weekday y m 1 w ≡ 1 + (w + 7 - weekday_of (day y m 1)) % 7

@@ -1,8 +1,7 @@
 -- What is seen of the code's times and moments of years.
 use Rattle.std.specs.Prelude.{ℤ}
+use Rattle.tz_posix.specs.declared.{moments.Moments.{Moments}, rule.YearlyTime.{YearlyTime}}
 use Rattle.tz_posix.specs.InForce as force
-use Rattle.tz_posix.specs.declared.moments.Moments.{Moments}
-use Rattle.tz_posix.specs.declared.rule.YearlyTime.{YearlyTime}
 
 abbrev pub time_shown : YearlyTime → force.YearlyTime
 time_shown time = (time.date, time.seconds)

@@ -1,10 +1,8 @@
 //! The days of a rule.
-ghost use Rattle.std.specs.Prelude.{◌≡◌, ◌≤◌, ◌<◌, ◌+◌, ◌-◌, if◌then◌else◌, ◌&&◌, ◌==◌, nat_le, IsTrue, IfOk, None, pos, neg_ℤ, ◌+ℤ◌, ◌≤ℤ◌};
-ghost use Rattle.std.specs.Result.{result_err};
+ghost use Rattle.std.specs.{Prelude.{◌≡◌, ◌≤◌, ◌<◌, ◌+◌, ◌-◌, if◌then◌else◌, ◌&&◌, ◌==◌, nat_le, IsTrue, IfOk, None, pos, neg_ℤ, ◌+ℤ◌, ◌≤ℤ◌}, Result.{result_err}};
 ghost use Rattle.basics.specs.Days.{day as day_of_date, is_leap, days_in_year, IsCountedYear};
 ghost use Rattle.civil_base.specs.Ranges.{IsDay, IsYear};
-ghost use Rattle.tz_posix.specs.Days.{rule_day, day_refusal, is_last_month, julian_day as julian_in, nth_weekday as nth_in, IsNth};
-ghost use Rattle.tz_posix.specs.Ranges.{is_rule_date};
+ghost use Rattle.tz_posix.specs.{Days.{rule_day, day_refusal, is_last_month, julian_day as julian_in, nth_weekday as nth_in, IsNth}, Ranges.{is_rule_date}};
 
 use crate::error::Error;
 use basics::{day_number, is_leap_year, month_length, weekday};

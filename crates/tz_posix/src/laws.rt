@@ -1,24 +1,13 @@
 //! Laws of the texts, and of zones and strings that say the same.
 ghost use Rattle.std.specs.Prelude.{◌≡◌, ℕ, ℤ, pos, neg_ℤ, ◌≤ℤ◌, ◌<ℤ◌, true, List, [], ◌∷◌, Option, None, is_some, IfSome, Ok};
-ghost use Rattle.civil_base.specs.DateTimes.{instant};
-ghost use Rattle.civil_base.specs.Instants.{seconds_of};
+ghost use Rattle.civil_base.specs.{DateTimes.{instant}, Instants.{seconds_of}};
 ghost use Rattle.zone_table.specs.declared.zone.ZoneInfo.{ZoneInfo};
-ghost use Rattle.zone_spans.specs.Compiled.{compiled};
-ghost use Rattle.zone_spans.specs.Lines.{Rulesets};
-ghost use Rattle.zone_spans.specs.Years.{latest_year};
-ghost use Rattle.zone_spans.specs.Schedules.{schedule_of_lines, total_at};
-ghost use Rattle.tz_posix.specs.TwoRules.{IsCompiled};
-ghost use Rattle.tz_lookup.specs.Compiles.{spans_of};
-ghost use Rattle.tz_lookup.specs.Sets.{schedule_of as schedule_in};
-ghost use Rattle.tz_lookup.specs.Zones.{set_of};
+ghost use Rattle.zone_spans.specs.{Compiled.{compiled}, Lines.{Rulesets}, Years.{latest_year}, Schedules.{schedule_of_lines, total_at}};
+ghost use Rattle.tz_posix.specs.{TwoRules.{IsCompiled}, Agreement.{IsCovered, IsFromFirstStart, IsInRuleYears, IsNorthern, IsSouthern, RuledValue, SaysTheSame, TwoRuleZone, first_year, value_of, value_total}, PosixShown.{posix_of}};
+ghost use Rattle.tz_posix.specs.{PosixZones.{GivesTotal, posix_refusal}, RealPairs.{IsRuledBy, lord_howe_rules, lord_howe_text, lord_howe_value, moldova_rules, moldova_text, moldova_value, new_york_text, new_york_value, us_rules}, Resolved.{resolved}};
+ghost use Rattle.tz_posix.specs.{Spells.{Spells, RunsAreLongest, day_times}, Values.{TzValue}};
+ghost use Rattle.tz_lookup.specs.{Compiles.{spans_of}, Sets.{schedule_of as schedule_in}, Zones.{set_of}};
 ghost use Rattle.tz_zone.specs.declared.set.FixedTimespanSet.{FixedTimespanSet};
-ghost use Rattle.tz_posix.specs.Agreement.{IsCovered, IsFromFirstStart, IsInRuleYears, IsNorthern, IsSouthern, RuledValue, SaysTheSame, TwoRuleZone, first_year, value_of, value_total};
-ghost use Rattle.tz_posix.specs.PosixShown.{posix_of};
-ghost use Rattle.tz_posix.specs.PosixZones.{GivesTotal, posix_refusal};
-ghost use Rattle.tz_posix.specs.RealPairs.{IsRuledBy, lord_howe_rules, lord_howe_text, lord_howe_value, moldova_rules, moldova_text, moldova_value, new_york_text, new_york_value, us_rules};
-ghost use Rattle.tz_posix.specs.Resolved.{resolved};
-ghost use Rattle.tz_posix.specs.Spells.{Spells, RunsAreLongest, day_times};
-ghost use Rattle.tz_posix.specs.Values.{TzValue};
 
 use crate::posix::PosixTz;
 use civil_base::{OffsetDateTime, UtcOffset};

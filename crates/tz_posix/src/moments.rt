@@ -1,7 +1,6 @@
 //! When daylight saving time starts and ends in a year.
 ghost use Rattle.std.specs.Prelude.{◌≡◌};
-ghost use Rattle.tz_posix.specs.InForce.{is_within as is_between};
-ghost use Rattle.tz_posix.specs.Yearly.{moments_shown};
+ghost use Rattle.tz_posix.specs.{InForce.{is_within as is_between}, Yearly.{moments_shown}};
 
 /// The start and the end of daylight saving time in one year, in seconds from 1970-01-01 00:00:00 UTC.
 #[derive(Clone, Copy, Debug, PartialEq, Eq)]

@@ -26,8 +26,7 @@ enum Source<'a> {
 impl<'a> PosixTzOffset<'a> {
     ghost use Rattle.civil_base.specs.DateTimes.{instant};
     ghost use Rattle.tz_lookup.specs.Zones.{set_of};
-    ghost use Rattle.tz_posix.specs.Offsets.{given_of};
-    ghost use Rattle.tz_posix.specs.PosixZones.{Gives, zone as zone_of};
+    ghost use Rattle.tz_posix.specs.{Offsets.{given_of}, PosixZones.{Gives, zone as zone_of}};
 
     /// The offset of a zone at an instant.
     pub(crate) fn in_zone(zone: &Tz<'a>, date_time: &OffsetDateTime) -> PosixTzOffset<'a>

@@ -1,11 +1,6 @@
 //! Texts over a database.
 ghost use Rattle.std.specs.Prelude.{◌≡◌, None, option_and_then};
-ghost use Rattle.tz_posix.specs.NamedShown.{named_of};
-ghost use Rattle.tz_posix.specs.Parses.{IsParsed, IsResolved, TellsZone};
-ghost use Rattle.tz_posix.specs.Ranges.{posix_range, rule_range};
-ghost use Rattle.tz_posix.specs.Resolved.{by_rule};
-ghost use Rattle.tz_posix.specs.Shown.{tz_shown};
-ghost use Rattle.tz_posix.specs.Spells.{day_times};
+ghost use Rattle.tz_posix.specs.{NamedShown.{named_of}, Parses.{IsParsed, IsResolved, TellsZone}, Ranges.{posix_range, rule_range}, Resolved.{by_rule}, Shown.{tz_shown}, Spells.{day_times}};
 
 use crate::error::ParseError;
 use crate::posix::{Kind, Named, PosixTz};

@@ -1,14 +1,8 @@
 //! POSIX TZ strings as time zones.
-ghost use Rattle.std.specs.Prelude.{◌≡◌, IfOk, option_map, unsigned_abs, ◌≤◌};
-ghost use Rattle.std.specs.Result.{result_err};
-ghost use Rattle.civil_base.specs.DateTimes.{instant};
-ghost use Rattle.civil_base.specs.Ranges.{far_seconds};
+ghost use Rattle.std.specs.{Prelude.{◌≡◌, IfOk, option_map, unsigned_abs, ◌≤◌}, Result.{result_err}};
+ghost use Rattle.civil_base.specs.{DateTimes.{instant}, Ranges.{far_seconds}};
 ghost use Rattle.tz_lookup.specs.Zones.{set_of};
-ghost use Rattle.tz_posix.specs.Offsets.{given_of};
-ghost use Rattle.tz_posix.specs.PosixZones.{either, Gives, GivesByRule, IsOf, posix_refusal, iana_of};
-ghost use Rattle.tz_posix.specs.InForce.{rule_refusal};
-ghost use Rattle.tz_posix.specs.NamedShown.{named_of};
-ghost use Rattle.tz_posix.specs.Yearly.{time_shown};
+ghost use Rattle.tz_posix.specs.{Offsets.{given_of}, PosixZones.{either, Gives, GivesByRule, IsOf, posix_refusal, iana_of}, InForce.{rule_refusal}, NamedShown.{named_of}, Yearly.{time_shown}};
 
 use crate::error::Error;
 use crate::offset::PosixTzOffset;

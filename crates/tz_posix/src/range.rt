@@ -1,9 +1,6 @@
 //! The ranges of a value's parts.
-ghost use Rattle.std.specs.Prelude.{◌≡◌, [], ◌∷◌, option_and_then};
-ghost use Rattle.std.specs.Result.{result_err};
-ghost use Rattle.tz_posix.specs.Ranges.{first_some, offset_miss, rule_time_miss, date_miss, rule_range, posix_range};
-ghost use Rattle.tz_posix.specs.Spells.{day_times};
-ghost use Rattle.tz_posix.specs.Shown.{tz_shown};
+ghost use Rattle.std.specs.{Prelude.{◌≡◌, [], ◌∷◌, option_and_then}, Result.{result_err}};
+ghost use Rattle.tz_posix.specs.{Ranges.{first_some, offset_miss, rule_time_miss, date_miss, rule_range, posix_range}, Spells.{day_times}, Shown.{tz_shown}};
 
 use crate::date::Date;
 use crate::error::RangeError;

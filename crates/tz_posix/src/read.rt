@@ -1,9 +1,6 @@
 //! The reader: a whole text to its value.
 ghost use Rattle.std.specs.Prelude.{◌≡◌, option_map, MatchOption};
-ghost use Rattle.tz_posix.specs.Reading.{read_as, own_offset_at, own_rule_in, dst_in, short_in, expanded_in, entry_in, is_over};
-ghost use Rattle.tz_posix.specs.Spells.{Spells, SpellsIn};
-ghost use Rattle.tz_posix.specs.Values.{TzValue, Value};
-ghost use Rattle.tz_posix.specs.Shown.{dst_shown, tz_shown};
+ghost use Rattle.tz_posix.specs.{Reading.{read_as, own_offset_at, own_rule_in, dst_in, short_in, expanded_in, entry_in, is_over}, Spells.{Spells, SpellsIn}, Values.{TzValue, Value}, Shown.{dst_shown, tz_shown}};
 
 pub(crate) mod dates;
 pub(crate) mod names;

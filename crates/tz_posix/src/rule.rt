@@ -1,13 +1,8 @@
 //! Daylight saving time by a rule: whether it is in force at an instant.
-ghost use Rattle.std.specs.Prelude.{◌≡◌, ◌≤◌, ◌<◌, [], ◌∷◌, IsTrue, true, false, IfOk, None, MatchOption, unsigned_abs, pos, ◌+ℤ◌, ◌-ℤ◌, ◌*ℤ◌};
-ghost use Rattle.std.specs.Int.{int_div_euclid};
-ghost use Rattle.std.specs.Result.{result_err};
-ghost use Rattle.basics.specs.Dates.{year_of};
-ghost use Rattle.basics.specs.Days.{IsCountedYear};
+ghost use Rattle.std.specs.{Prelude.{◌≡◌, ◌≤◌, ◌<◌, [], ◌∷◌, IsTrue, true, false, IfOk, None, MatchOption, unsigned_abs, pos, ◌+ℤ◌, ◌-ℤ◌, ◌*ℤ◌}, Int.{int_div_euclid}, Result.{result_err}};
+ghost use Rattle.basics.specs.{Dates.{year_of}, Days.{IsCountedYear}};
 ghost use Rattle.civil_base.specs.Ranges.{far_seconds, IsYear};
-ghost use Rattle.tz_posix.specs.Days.{day_refusal};
-ghost use Rattle.tz_posix.specs.InForce.{instant_in, is_saving as is_saving_at, is_within as is_between, is_year, moment_of, moments_in, rule_refusal, year_at as year_in};
-ghost use Rattle.tz_posix.specs.Ranges.{first_some, is_rule_date, rule_range};
+ghost use Rattle.tz_posix.specs.{Days.{day_refusal}, InForce.{instant_in, is_saving as is_saving_at, is_within as is_between, is_year, moment_of, moments_in, rule_refusal, year_at as year_in}, Ranges.{first_some, is_rule_date, rule_range}};
 
 use crate::date::Date;
 use crate::error::Error;

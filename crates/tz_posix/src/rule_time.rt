@@ -1,8 +1,6 @@
 //! The times that a rule may have.
 ghost use Rattle.std.specs.Prelude.{◌≡◌, ℕ, List, Option};
-ghost use Rattle.tz_posix.specs.Ranges.{is_time};
-ghost use Rattle.tz_posix.specs.Reading.{AreRead, read_as};
-ghost use Rattle.tz_posix.specs.Spells.{TimeRange};
+ghost use Rattle.tz_posix.specs.{Ranges.{is_time}, Reading.{AreRead, read_as}, Spells.{TimeRange}};
 
 use crate::read::times::{offset, time};
 use crate::time::{Offset, Time};
@@ -33,9 +31,7 @@ pub trait RuleTime: Drop {
 
 /// From 0 to 23:59:59.
 impl RuleTime for Time {
-    ghost use Rattle.tz_posix.specs.Reading.{clock_time_at};
-    ghost use Rattle.tz_posix.specs.Spells.{day_times};
-    ghost use Rattle.tz_posix.specs.TimeLaws.{day_times_read};
+    ghost use Rattle.tz_posix.specs.{Reading.{clock_time_at}, Spells.{day_times}, TimeLaws.{day_times_read}};
 
     ghost range = { day_times };
 
@@ -58,9 +54,7 @@ impl RuleTime for Time {
 
 /// From -167:59:59 to 167:59:59.
 impl RuleTime for Offset {
-    ghost use Rattle.tz_posix.specs.Reading.{offset_at};
-    ghost use Rattle.tz_posix.specs.Spells.{signed_times};
-    ghost use Rattle.tz_posix.specs.TimeLaws.{signed_times_read};
+    ghost use Rattle.tz_posix.specs.{Reading.{offset_at}, Spells.{signed_times}, TimeLaws.{signed_times_read}};
 
     ghost range = { signed_times };
 

@@ -1,10 +1,7 @@
 //! Times of day and offsets, as a text writes them.
-ghost use Rattle.std.specs.Prelude.{◌≡◌, ◌<◌, None, option_and_then, pos, ◌+ℤ◌};
-ghost use Rattle.std.specs.Option.{option_map_or};
-ghost use Rattle.civil_base.specs.Clock.{time_at, IsClockTime};
-ghost use Rattle.civil_base.specs.Ranges.{IsOffset};
-ghost use Rattle.tz_posix.specs.Ranges.{offset_miss};
-ghost use Rattle.tz_posix.specs.Seconds.{east_of, part, IsWritten};
+ghost use Rattle.std.specs.{Prelude.{◌≡◌, ◌<◌, None, option_and_then, pos, ◌+ℤ◌}, Option.{option_map_or}};
+ghost use Rattle.civil_base.specs.{Clock.{time_at, IsClockTime}, Ranges.{IsOffset}};
+ghost use Rattle.tz_posix.specs.{Ranges.{offset_miss}, Seconds.{east_of, part, IsWritten}};
 
 use civil_base::UtcOffset;
 
@@ -29,8 +26,7 @@ pub struct Offset {
 }
 
 impl Time {
-    ghost use Rattle.tz_posix.specs.Ranges.{is_time};
-    ghost use Rattle.tz_posix.specs.Seconds.{time_seconds};
+    ghost use Rattle.tz_posix.specs.{Ranges.{is_time}, Seconds.{time_seconds}};
 
     /// The time of day. Minutes and seconds that are not written are 0. The hour is at most 23, a minute and a second at
     /// most 59.

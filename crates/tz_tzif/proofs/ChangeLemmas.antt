@@ -1,18 +1,8 @@
 -- What holds stays as it is up to the next moment of the years that are looked at, or the next year.
-use Rattle.std.proofs.Common.{◌≡◌, ◌≤◌, suc, ℤ, pos, neg_ℤ, cond, ◌+ℤ◌, ◌-ℤ◌, ◌*ℤ◌, ◌≤ℤ◌, ◌<ℤ◌, int_le, int_lt, refl, ap, ◌∙◌, arith, unsigned_abs}
-use Rattle.std.specs.Prelude.{◌&&◌, ◌||◌}
-use Rattle.std.specs.Int.{int_div_euclid}
-use Rattle.std.proofs.lemmas.Int.{ints}
-use Rattle.basics.specs.ComparisonLaws.{lt_pass}
-use Rattle.basics.specs.DateLaws.{IsYearOf, day-last_of_year, day-range, day_parts, place_of, year-between, year_of-is}
-use Rattle.basics.specs.Dates.{year_of, month_of, day_of}
-use Rattle.basics.specs.Days.{day, IsCountedYear}
-use Rattle.basics.specs.MonthLaws.{days_through-two}
-use Rattle.basics.specs.SignedLaws.{signed}
+use Rattle.std.{proofs.Common.{◌≡◌, ◌≤◌, suc, ℤ, pos, neg_ℤ, cond, ◌+ℤ◌, ◌-ℤ◌, ◌*ℤ◌, ◌≤ℤ◌, ◌<ℤ◌, int_le, int_lt, refl, ap, ◌∙◌, arith, unsigned_abs}, specs.Prelude.{◌&&◌, ◌||◌}, specs.Int.{int_div_euclid}, proofs.lemmas.Int.{ints}}
+use Rattle.basics.specs.{ComparisonLaws.{lt_pass}, DateLaws.{IsYearOf, day-last_of_year, day-range, day_parts, place_of, year-between, year_of-is}, Dates.{year_of, month_of, day_of}, Days.{day, IsCountedYear}, MonthLaws.{days_through-two}, SignedLaws.{signed}}
 use Rattle.basics.specs.YearLaws.{cycle_days-suc, day-cycle}
-use Rattle.civil_base.specs.DayRangeLaws.{day-first, day-last, counted}
-use Rattle.civil_base.specs.RangeLaws.{offset_greatest, offset_least}
-use Rattle.civil_base.specs.Ranges.{IsOffset, IsYear}
+use Rattle.civil_base.specs.{DayRangeLaws.{day-first, day-last, counted}, RangeLaws.{offset_greatest, offset_least}, Ranges.{IsOffset, IsYear}}
 use Rattle.tz_posix.specs.InForce.{YearlyTime, moments_in, year_at}
 use Rattle.tz_tzif.specs.FooterForce.{has_begun, is_footer_saving, is_saved, is_saved_by, year_after, year_before}
 

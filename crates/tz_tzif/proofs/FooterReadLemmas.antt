@@ -1,19 +1,7 @@
 -- The reading of a footer is the value that it spells.
-use Rattle.std.proofs.Common.{◌≡◌, ℕ, List, Option, Some, None, option_map, MatchOption, Result, Err, refl, sym, ap, ◌∙◌, subst}
-use Rattle.std.proofs.lemmas.Option.{same_Some, none-some}
-use Rattle.std.specs.Result.{result_err}
-use Rattle.tz_posix.specs.EntryLaws.{one_reading}
-use Rattle.tz_posix.specs.Spells.{SpellsIn, signed_times}
-use Rattle.tz_posix.specs.TimeLaws.{signed_times_read}
-use Rattle.tz_posix.specs.Values.{StdPart, Value, short, expanded}
-use Rattle.tz_posix.specs.declared.error.RangeError.{RangeError}
-use Rattle.tz_posix.specs.declared.time.Offset.{Offset}
-use Rattle.tz_posix.specs.declared.values.Rule.{Rule}
-use Rattle.tz_tzif.specs.Ranges.{IsFooterOf, footer_miss}
-use Rattle.tz_tzif.specs.Shown.{text_shown}
-use Rattle.tz_tzif.specs.Spells.{SpellsFooter}
-use Rattle.tz_tzif.specs.Values.{SavingValue, FooterValue, footer_in, tz_of, with_rule}
-use Rattle.tz_tzif.specs.declared.values.FooterText.{FooterText}
+use Rattle.std.{proofs.Common.{◌≡◌, ℕ, List, Option, Some, None, option_map, MatchOption, Result, Err, refl, sym, ap, ◌∙◌, subst}, proofs.lemmas.Option.{same_Some, none-some}, specs.Result.{result_err}}
+use Rattle.tz_posix.specs.{EntryLaws.{one_reading}, Spells.{SpellsIn, signed_times}, TimeLaws.{signed_times_read}, Values.{StdPart, Value, short, expanded}, declared.error.RangeError.{RangeError}, declared.time.Offset.{Offset}, declared.values.Rule.{Rule}}
+use Rattle.tz_tzif.specs.{Ranges.{IsFooterOf, footer_miss}, Shown.{text_shown}, Spells.{SpellsFooter}, Values.{SavingValue, FooterValue, footer_in, tz_of, with_rule}, declared.values.FooterText.{FooterText}}
 
 with_saving : (standard : StdPart) (name : List ℕ) (offset : Option Offset) (r : Option (Rule Offset)) (f : FooterValue)
     → option_map (with_rule standard name offset) r ≡ Some f

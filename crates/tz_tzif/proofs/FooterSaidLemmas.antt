@@ -1,22 +1,7 @@
 -- A footer says what is read of it, and nothing else.
-use Rattle.std.proofs.Common.{◌≡◌, ℕ, List, [], ◌∷◌, Option, Some, None, length, option_map, arith, refl, sym, ap, ◌∙◌, subst}
-use Rattle.std.proofs.lemmas.Option.{same_Some, none-some}
-use Rattle.std.specs.Option.{option_and_then}
-use Rattle.tz_posix.specs.AgainLaws.{entry_again}
-use Rattle.tz_posix.specs.FoundLaws.{entry_found}
-use Rattle.tz_posix.specs.Reading.{entry_in, offset_at}
-use Rattle.tz_posix.specs.Spells.{SpellsIn, signed_times}
-use Rattle.tz_posix.specs.TimeLaws.{signed_times_read}
-use Rattle.tz_posix.specs.Values.{Value}
-use Rattle.tz_posix.specs.declared.error.RangeError.{RangeError}
-use Rattle.tz_posix.specs.declared.time.Offset.{Offset}
-use Rattle.tz_tzif.specs.Faults.{SaysInFooter}
-use Rattle.tz_tzif.specs.FooterForce.{FooterZone}
-use Rattle.tz_tzif.specs.FooterLaws.{no_text}
-use Rattle.tz_tzif.specs.FooterReading.{footer_reading, if_in_ranges, said_by}
-use Rattle.tz_tzif.specs.Ranges.{footer_miss, IsFooterOf}
-use Rattle.tz_tzif.specs.Spells.{SpellsFooter}
-use Rattle.tz_tzif.specs.Standing.{stands_for, StandsFor}
+use Rattle.std.{proofs.Common.{◌≡◌, ℕ, List, [], ◌∷◌, Option, Some, None, length, option_map, arith, refl, sym, ap, ◌∙◌, subst}, proofs.lemmas.Option.{same_Some, none-some}, specs.Option.{option_and_then}}
+use Rattle.tz_posix.specs.{AgainLaws.{entry_again}, FoundLaws.{entry_found}, Reading.{entry_in, offset_at}, Spells.{SpellsIn, signed_times}, TimeLaws.{signed_times_read}, Values.{Value}, declared.error.RangeError.{RangeError}, declared.time.Offset.{Offset}}
+use Rattle.tz_tzif.specs.{Faults.{SaysInFooter}, FooterForce.{FooterZone}, FooterLaws.{no_text}, FooterReading.{footer_reading, if_in_ranges, said_by}, Ranges.{footer_miss, IsFooterOf}, Spells.{SpellsFooter}, Standing.{stands_for, StandsFor}}
 use Rattle.tz_tzif.specs.Values.{FooterValue, footer_in, tz_of}
 use Rattle.tz_tzif.proofs.FooterReadLemmas.{is_tz_of, of_tz_of}
 

@@ -1,15 +1,9 @@
 -- What falling offsets give is the rising list of the instants that are read as a local time.
-use Rattle.std.proofs.Common.{◌≡◌, Bool, true, false, cond, List, [], ◌∷◌, map, ℤ, pos, ◌+ℤ◌, ◌*ℤ◌, ◌<ℤ◌, refl, sym, ap, ◌∙◌, subst, ⊎_elim, arith}
-use Rattle.std.specs.Prelude.{Contains}
-use Rattle.std.specs.Ordering.{int_eq}
-use Rattle.std.specs.List.{filter}
-use Rattle.std.proofs.lemmas.Bool.{cases_Bool}
-use Rattle.std.proofs.lemmas.Int.{ints}
+use Rattle.std.proofs.{Common.{◌≡◌, Bool, true, false, cond, List, [], ◌∷◌, map, ℤ, pos, ◌+ℤ◌, ◌*ℤ◌, ◌<ℤ◌, refl, sym, ap, ◌∙◌, subst, ⊎_elim, arith}, lemmas.Bool.{cases_Bool}, lemmas.Int.{ints}}
+use Rattle.std.specs.{Prelude.{Contains}, Ordering.{int_eq}, List.{filter}}
 use Rattle.basics.specs.ComparisonLaws.{eq_from_pass, eq_pass}
 use Rattle.civil_base.specs.Instants.{instant_at}
-use Rattle.tz_zone.specs.InForce.{AreInstants}
-use Rattle.tz_zone.specs.InstantLaws.{from_reading, reads_back}
-use Rattle.tz_zone.specs.RisingLaws.{Rises, pairs_more, contains_head, contains_more, cases_more}
+use Rattle.tz_zone.specs.{InForce.{AreInstants}, InstantLaws.{from_reading, reads_back}, RisingLaws.{Rises, pairs_more, contains_head, contains_more, cases_more}}
 use Rattle.tz_tzif.specs.Instants.{Falls, FallsFrom}
 
 -- whether an offset is in force at the instant at which clocks at it show a local time

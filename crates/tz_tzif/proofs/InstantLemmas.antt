@@ -1,30 +1,13 @@
 -- The offsets that are read at a local second give the instants of a local time.
-use Rattle.std.proofs.Common.{◌≡◌, ◌≤◌, Bool, cond, List, [], ◌∷◌, Option, length, map, ℤ, ◌-ℤ◌, refl, sym, ap, ◌∙◌, ⊎_elim, arith}
-use Rattle.std.specs.Prelude.{Contains}
-use Rattle.std.specs.List.{filter}
-use Rattle.std.specs.Ordering.{int_eq}
-use Rattle.std.proofs.lemmas.Bool.{cases_Bool}
-use Rattle.std.proofs.lemmas.List.{length-map}
+use Rattle.std.proofs.{Common.{◌≡◌, ◌≤◌, Bool, cond, List, [], ◌∷◌, Option, length, map, ℤ, ◌-ℤ◌, refl, sym, ap, ◌∙◌, ⊎_elim, arith}, lemmas.Bool.{cases_Bool}, lemmas.List.{length-map}}
+use Rattle.std.specs.{Prelude.{Contains}, List.{filter}, Ordering.{int_eq}}
 use Rattle.basics.specs.ComparisonLaws.{eq_from_pass}
-use Rattle.civil_base.specs.DateTimes.{at_offset}
-use Rattle.civil_base.specs.Instants.{instant_at, seconds_of}
-use Rattle.civil_base.specs.Ranges.{IsOffset}
-use Rattle.tz_tzif.specs.FooterForce.{FooterZone}
+use Rattle.civil_base.specs.{DateTimes.{at_offset}, Instants.{instant_at, seconds_of}, Ranges.{IsOffset}}
+use Rattle.tz_tzif.specs.{FooterForce.{FooterZone}, FooterShown.{held_shown}, declared.held.Held.{Held}, InForce.{kind_at, kind_in, total_in, told_total_at}, Next.{IsHeldFor}, Zones.{IsOfKind}, Instants.{Falls, is_read, read_at}, Offsets.{offsets_of}}
+use Rattle.tz_tzif.proofs.{GivenLemmas.{reads, given, given_are, given_takes, given_skips, totals_given}, OffsetLemmas.{offsets_fall, each_there}}
 use Rattle.zone_spans.specs.Schedules.{instants}
-use Rattle.tz_zone.specs.InForce.{in_force, all_in_force, shown_of, totals_at}
-use Rattle.tz_zone.specs.InForceLaws.{shown_at_offset}
-use Rattle.tz_zone.specs.InstantLaws.{few_pass, instants_one}
-use Rattle.tz_zone.specs.SecondLaws.{seconds_of-instant_at}
+use Rattle.tz_zone.specs.{InForce.{in_force, all_in_force, shown_of, totals_at}, InForceLaws.{shown_at_offset}, InstantLaws.{few_pass, instants_one}, SecondLaws.{seconds_of-instant_at}}
 use Rattle.zone_tzif_core.specs.Zones.{KindValue, ZoneValue}
-use Rattle.tz_tzif.specs.FooterShown.{held_shown}
-use Rattle.tz_tzif.specs.declared.held.Held.{Held}
-use Rattle.tz_tzif.specs.InForce.{kind_at, kind_in, total_in, told_total_at}
-use Rattle.tz_tzif.specs.Next.{IsHeldFor}
-use Rattle.tz_tzif.specs.Zones.{IsOfKind}
-use Rattle.tz_tzif.specs.Instants.{Falls, is_read, read_at}
-use Rattle.tz_tzif.specs.Offsets.{offsets_of}
-use Rattle.tz_tzif.proofs.GivenLemmas.{reads, given, given_are, given_takes, given_skips, totals_given}
-use Rattle.tz_tzif.proofs.OffsetLemmas.{offsets_fall, each_there}
 
 -- the total at an instant, by its second
 abbrev by_second : (ℤ → ℤ) → ℤ → ℤ

@@ -1,17 +1,9 @@
 -- Each total of a zone is less than 26 hours in size.
-use Rattle.std.proofs.Common.{◌≡◌, Bool, true, false, cond, List, [], ◌∷◌, Option, Some, None, ℤ, pos, negsuc, int_le, sym, subst, ⊎_elim, arith}
-use Rattle.std.specs.List.{filter, list_all}
-use Rattle.std.proofs.lemmas.Bool.{and_parts, cases_Bool}
-use Rattle.basics.specs.SignedLaws.{one_sided, signed}
-use Rattle.basics.specs.ComparisonLaws.{le_from_pass}
-use Rattle.civil_base.specs.Ranges.{IsOffset}
-use Rattle.civil_base.specs.RangeLaws.{offset_by_size}
-use Rattle.tz_tzif.specs.FooterForce.{FooterZone, fixed, yearly, held_at, is_footer_saving}
-use Rattle.zone_tzif_core.specs.Totals.{last_kind}
-use Rattle.zone_tzif_core.specs.Zones.{KindValue, ZoneValue, is_small}
-use Rattle.tz_tzif.specs.Faults.{are_small}
-use Rattle.tz_tzif.specs.InForce.{are_over, kind_in, kind_at, told_total_at}
-use Rattle.tz_tzif.specs.Offsets.{AreOffsets}
+use Rattle.std.{proofs.Common.{◌≡◌, Bool, true, false, cond, List, [], ◌∷◌, Option, Some, None, ℤ, pos, negsuc, int_le, sym, subst, ⊎_elim, arith}, specs.List.{filter, list_all}, proofs.lemmas.Bool.{and_parts, cases_Bool}}
+use Rattle.basics.specs.{SignedLaws.{one_sided, signed}, ComparisonLaws.{le_from_pass}}
+use Rattle.civil_base.specs.{Ranges.{IsOffset}, RangeLaws.{offset_by_size}}
+use Rattle.tz_tzif.specs.{FooterForce.{FooterZone, fixed, yearly, held_at, is_footer_saving}, Faults.{are_small}, InForce.{are_over, kind_in, kind_at, told_total_at}, Offsets.{AreOffsets}}
+use Rattle.zone_tzif_core.specs.{Totals.{last_kind}, Zones.{KindValue, ZoneValue, is_small}}
 
 pub small_offset : (o : ℤ) → is_small o ≡ true → IsOffset o
 small_offset o h =

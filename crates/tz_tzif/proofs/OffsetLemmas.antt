@@ -1,18 +1,10 @@
 -- The offsets of a zone fall, and each of its totals is among them.
-use Rattle.std.proofs.Common.{◌≡◌, Bool, true, false, cond, List, [], ◌∷◌, Option, Some, None, ℤ, ◌<ℤ◌, int_lt, sym, subst, ap, ⊎_elim, rules, arith}
-use Rattle.std.specs.Prelude.{Contains}
-use Rattle.std.specs.List.{filter}
-use Rattle.std.specs.Ordering.{int_eq}
-use Rattle.std.proofs.lemmas.Bool.{cases_Bool}
-use Rattle.std.proofs.lemmas.Int.{ints}
+use Rattle.std.proofs.{Common.{◌≡◌, Bool, true, false, cond, List, [], ◌∷◌, Option, Some, None, ℤ, ◌<ℤ◌, int_lt, sym, subst, ap, ⊎_elim, rules, arith}, lemmas.Bool.{cases_Bool}, lemmas.Int.{ints}}
+use Rattle.std.specs.{Prelude.{Contains}, List.{filter}, Ordering.{int_eq}}
 use Rattle.basics.specs.ComparisonLaws.{eq_from_pass, lt_from_pass}
-use Rattle.tz_tzif.specs.FooterForce.{FooterZone, fixed, yearly, held_at, is_footer_saving, standard_total, saving_total}
+use Rattle.tz_tzif.specs.{FooterForce.{FooterZone, fixed, yearly, held_at, is_footer_saving, standard_total, saving_total}, InForce.{are_over, kind_in, total_in}, Instants.{Falls, FallsFrom}, Offsets.{offsets_of, put, put_all, put_footer}}
 use Rattle.tz_zone.specs.RisingLaws.{contains_head, contains_more, cases_more}
-use Rattle.zone_tzif_core.specs.Totals.{last_kind}
-use Rattle.zone_tzif_core.specs.Zones.{KindValue, ZoneValue}
-use Rattle.tz_tzif.specs.InForce.{are_over, kind_in, total_in}
-use Rattle.tz_tzif.specs.Instants.{Falls, FallsFrom}
-use Rattle.tz_tzif.specs.Offsets.{offsets_of, put, put_all, put_footer}
+use Rattle.zone_tzif_core.specs.{Totals.{last_kind}, Zones.{KindValue, ZoneValue}}
 
 lt_from_tests : (a b : ℤ) → int_lt a b ≡ false → int_eq b a ≡ false → b <ℤ a
 lt_from_tests a b h k = grind (arith, ints)

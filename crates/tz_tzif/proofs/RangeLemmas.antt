@@ -1,12 +1,7 @@
 -- The parts of a footer in its ranges.
-use Rattle.std.proofs.Common.{◌≡◌, [], ◌∷◌, Option, Some, None}
-use Rattle.std.specs.Prelude.{option_and_then}
-use Rattle.tz_posix.specs.RangeLaws.{none_first}
-use Rattle.tz_posix.specs.Ranges.{first_miss, offset_miss, rule_range}
-use Rattle.tz_posix.specs.Spells.{signed_times}
-use Rattle.tz_posix.specs.Values.{StdPart}
-use Rattle.tz_tzif.specs.Ranges.{footer_miss}
-use Rattle.tz_tzif.specs.Values.{SavingValue}
+use Rattle.std.{proofs.Common.{◌≡◌, [], ◌∷◌, Option, Some, None}, specs.Prelude.{option_and_then}}
+use Rattle.tz_posix.specs.{RangeLaws.{none_first}, Ranges.{first_miss, offset_miss, rule_range}, Spells.{signed_times}, Values.{StdPart}}
+use Rattle.tz_tzif.specs.{Ranges.{footer_miss}, Values.{SavingValue}}
 
 pub standard_offset : (standard : StdPart) (saving : Option SavingValue) → footer_miss (record { standard = standard; saving = saving }) ≡ None
     → offset_miss standard.offset ≡ None

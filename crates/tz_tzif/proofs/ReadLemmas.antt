@@ -1,9 +1,6 @@
 -- The second of a local time.
-use Rattle.std.proofs.Common.{◌≡◌, ℤ, pos, ◌∙◌, w64, to_z, of_z, SFits}
-use Rattle.std.proofs.lemmas.Int.{to_z-of_z}
-use Rattle.civil_base.specs.DateTimes.{instant, local_of, offset_of}
-use Rattle.civil_base.specs.Instants.{seconds_of}
-use Rattle.civil_base.specs.declared.offset_date_time.OffsetDateTime.{OffsetDateTime}
+use Rattle.std.proofs.{Common.{◌≡◌, ℤ, pos, ◌∙◌, w64, to_z, of_z, SFits}, lemmas.Int.{to_z-of_z}}
+use Rattle.civil_base.specs.{DateTimes.{instant, local_of, offset_of}, Instants.{seconds_of}, declared.offset_date_time.OffsetDateTime.{OffsetDateTime}}
 use Rattle.tz_zone.specs.UtcLaws.{second_at_utc}
 
 -- as the code has it

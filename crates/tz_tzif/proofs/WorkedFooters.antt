@@ -1,24 +1,12 @@
 -- Footers that spell a value and texts that spell none, what is in range, and what values stand for, by hand.
 use Rattle.std.proofs.Common.{◌≡◌, refl, ℕ, ℤ, pos, neg_ℤ, Bool, true, false, List, [], ◌∷◌, ◌++◌, map, replicate, Option, Some, None, option_and_then, codes}
-use Rattle.basics.specs.Numbers.{value_in}
-use Rattle.basics.specs.Dates.{last_with}
-use Rattle.basics.specs.Days.{day, days_after_zero, days_in_month, days_in_year, days_into_year, days_through, is_leap, year_start}
-use Rattle.basics.specs.Weekdays.{weekday_of}
-use Rattle.tz_posix.specs.Days.{nth_weekday, rule_day}
-use Rattle.tz_posix.specs.InForce.{instant_in}
-use Rattle.tz_posix.specs.Ranges.{first_miss, rule_time_miss}
+use Rattle.basics.specs.{Numbers.{value_in}, Dates.{last_with}, Days.{day, days_after_zero, days_in_month, days_in_year, days_into_year, days_through, is_leap, year_start}, Weekdays.{weekday_of}}
+use Rattle.tz_posix.specs.{Days.{nth_weekday, rule_day}, InForce.{instant_in}, Ranges.{first_miss, rule_time_miss}}
 use Rattle.tz_posix.specs.Reading.{number_at, part_at, clock_time_at, sign_at, offset_at, letters_at, enclosed_at, name_at, weekday_at, date_at, own_offset_at, moment_at, rule_in, own_rule_in, dst_in, short_in, expanded_in, entry_in}
-use Rattle.tz_posix.specs.Seconds.{offset_seconds, time_seconds}
-use Rattle.tz_posix.specs.Spells.{signed_times}
+use Rattle.tz_posix.specs.{Seconds.{offset_seconds, time_seconds}, Spells.{signed_times}, declared.date.Date.{Date}, declared.date.Date.TheVariants.{J, M}, declared.time.Offset.{Offset}}
 use Rattle.tz_posix.specs.declared.error.RangeError.TheVariants as miss
-use Rattle.tz_posix.specs.declared.date.Date.{Date}
-use Rattle.tz_posix.specs.declared.date.Date.TheVariants.{J, M}
-use Rattle.tz_posix.specs.declared.time.Offset.{Offset}
 use Rattle.zone_tzif_core.specs.Zones.{KindValue}
-use Rattle.tz_tzif.specs.FooterForce.{fixed, yearly}
-use Rattle.tz_tzif.specs.Ranges.{footer_miss}
-use Rattle.tz_tzif.specs.Standing.{stands_for}
-use Rattle.tz_tzif.specs.Values.{FooterValue, footer_in}
+use Rattle.tz_tzif.specs.{FooterForce.{fixed, yearly}, Ranges.{footer_miss}, Standing.{stands_for}, Values.{FooterValue, footer_in}}
 
 abbrev kind : ℤ → Bool → List ℕ → KindValue
 kind utoff is_dst name = record { utoff = utoff; is_dst = is_dst; name = name }

@@ -1,15 +1,7 @@
 -- What rules give at instants that are known from outside, where they fire past their year's edges; and which year decides.
-use Rattle.std.proofs.Common.{◌≡◌, refl, arith, ◌∙◌, ap, cond, ℕ, ◌&&◌, nat_le, [], ◌∷◌, ◌++◌, map, true, false, ℤ, pos, neg_ℤ, ◌+ℤ◌, Bool, codes}
-use Rattle.std.proofs.lemmas.Bool.{and_parts, leb-true}
-use Rattle.std.specs.Int.{int_div_euclid}
-use Rattle.basics.specs.Dates.{last_with, year_of}
-use Rattle.basics.specs.DateLaws.{year_of-day}
-use Rattle.basics.specs.Days.{is_leap, days_in_year, days_in_month, days_after_zero, year_start, days_through, days_into_year, day, IsCountedYear}
-use Rattle.basics.specs.SignedLaws.{signed}
-use Rattle.basics.specs.Weekdays.{weekday_of}
-use Rattle.tz_posix.specs.Days.{nth_weekday, rule_day}
-use Rattle.tz_posix.specs.InForce.{YearlyTime, instant_in, year_at}
-use Rattle.tz_posix.specs.declared.date.Date.TheVariants.{M, N}
+use Rattle.std.{proofs.Common.{◌≡◌, refl, arith, ◌∙◌, ap, cond, ℕ, ◌&&◌, nat_le, [], ◌∷◌, ◌++◌, map, true, false, ℤ, pos, neg_ℤ, ◌+ℤ◌, Bool, codes}, proofs.lemmas.Bool.{and_parts, leb-true}, specs.Int.{int_div_euclid}}
+use Rattle.basics.specs.{Dates.{last_with, year_of}, DateLaws.{year_of-day}, Days.{is_leap, days_in_year, days_in_month, days_after_zero, year_start, days_through, days_into_year, day, IsCountedYear}, SignedLaws.{signed}, Weekdays.{weekday_of}}
+use Rattle.tz_posix.specs.{Days.{nth_weekday, rule_day}, InForce.{YearlyTime, instant_in, year_at}, declared.date.Date.TheVariants.{M, N}}
 use Rattle.zone_tzif_core.specs.Zones.{KindValue}
 use Rattle.tz_tzif.specs.FooterForce.{is_saved_by, is_footer_saving, year_after, year_before, FooterZone, fixed, yearly, held_at, is_of_one_year, standard_total, saving_total}
 

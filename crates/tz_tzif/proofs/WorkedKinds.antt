@@ -1,15 +1,10 @@
 -- What holds in a zone of two changes, by hand.
-use Rattle.std.proofs.Common.{◌≡◌, refl, ℤ, pos, neg_ℤ, List, [], ◌∷◌, map, Some, None, true, false, codes, ap, arith}
-use Rattle.std.proofs.lemmas.Int.{ints}
+use Rattle.std.proofs.{Common.{◌≡◌, refl, ℤ, pos, neg_ℤ, List, [], ◌∷◌, map, Some, None, true, false, codes, ap, arith}, lemmas.Int.{ints}}
 use Rattle.civil_base.specs.Instants.{seconds_of}
-use Rattle.tz_tzif.specs.FooterForce.{fixed, held_at, yearly}
+use Rattle.tz_tzif.specs.{FooterForce.{fixed, held_at, yearly}, Faults.{are_small, IsNoFooter, IsTzifFault, SaysInFooter}, InForce.{kind_at, kind_in, told_total_at}, Lasting.{HoldsUntil}, Offsets.{offsets_of}}
+use Rattle.tz_tzif.specs.declared.fault.TzifFault.TheVariants.{Times, Offset, Footer}
 use Rattle.tz_posix.specs.declared.date.Date.TheVariants.{J}
 use Rattle.zone_tzif_core.specs.Zones.{KindValue, ZoneValue}
-use Rattle.tz_tzif.specs.Faults.{are_small, IsNoFooter, IsTzifFault, SaysInFooter}
-use Rattle.tz_tzif.specs.InForce.{kind_at, kind_in, told_total_at}
-use Rattle.tz_tzif.specs.Lasting.{HoldsUntil}
-use Rattle.tz_tzif.specs.Offsets.{offsets_of}
-use Rattle.tz_tzif.specs.declared.fault.TzifFault.TheVariants.{Times, Offset, Footer}
 
 abbrev kind : ℤ → KindValue
 kind o = record { utoff = o; is_dst = true; name = [] }

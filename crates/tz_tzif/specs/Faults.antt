@@ -1,13 +1,7 @@
 -- Which compiled zones can be looked up, and why others can't.
-use Rattle.std.specs.Prelude.{◌≡◌, ◌≢◌, ℕ, Bool, true, false, ◌&&◌, List, [], Option, Some, None}
-use Rattle.std.specs.List.{list_all}
-use Rattle.tz_tzif.specs.FooterForce.{FooterZone}
-use Rattle.tz_tzif.specs.Ranges.{IsFooterOf}
-use Rattle.tz_tzif.specs.Standing.{StandsFor}
-use Rattle.tz_tzif.specs.Values.{FooterValue}
+use Rattle.std.specs.{Prelude.{◌≡◌, ◌≢◌, ℕ, Bool, true, false, ◌&&◌, List, [], Option, Some, None}, List.{list_all}}
+use Rattle.tz_tzif.specs.{FooterForce.{FooterZone}, Ranges.{IsFooterOf}, Standing.{StandsFor}, Values.{FooterValue}, declared.fault.TzifFault.{TzifFault}, declared.fault.TzifFault.TheVariants.{Times, Offset, Footer, NoMemory}}
 use Rattle.zone_tzif_core.specs.Zones.{ZoneValue, is_small, rises}
-use Rattle.tz_tzif.specs.declared.fault.TzifFault.{TzifFault}
-use Rattle.tz_tzif.specs.declared.fault.TzifFault.TheVariants.{Times, Offset, Footer, NoMemory}
 
 -- an empty footer says nothing
 abbrev pub SaysInFooter : List ℕ → Option FooterZone → Type 0

@@ -1,11 +1,7 @@
 -- A footer is not empty.
-use Rattle.std.proofs.Common.{◌≡◌, ℕ, ◌<◌, List, [], ◌++◌, length, ap, arith}
-use Rattle.std.proofs.lemmas.List.{length-append}
-use Rattle.tz_posix.specs.Spells.{SpellsName, enclosed, letters, SpellsIn, short_form, full_form, signed_times}
-use Rattle.tz_posix.specs.Values.{Value}
-use Rattle.tz_posix.specs.declared.time.Offset.{Offset}
-use Rattle.tz_tzif.specs.FooterForce.{FooterZone}
-use Rattle.tz_tzif.specs.Standing.{StandsFor}
+use Rattle.std.proofs.{Common.{◌≡◌, ℕ, ◌<◌, List, [], ◌++◌, length, ap, arith}, lemmas.List.{length-append}}
+use Rattle.tz_posix.specs.{Spells.{SpellsName, enclosed, letters, SpellsIn, short_form, full_form, signed_times}, Values.{Value}, declared.time.Offset.{Offset}}
+use Rattle.tz_tzif.specs.{FooterForce.{FooterZone}, Standing.{StandsFor}}
 
 named : {text name : List ℕ} → SpellsName text name → 0 < length text
 named (enclosed h k) = omega arith

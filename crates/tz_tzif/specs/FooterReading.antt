@@ -1,11 +1,7 @@
 -- What a text says as a footer, as it is read.
 use Rattle.std.specs.Prelude.{ℕ, List, [], ◌∷◌, Option, Some, None, option_and_then, option_map}
-use Rattle.tz_posix.specs.Reading.{entry_in, offset_at}
-use Rattle.tz_posix.specs.declared.error.RangeError.{RangeError}
-use Rattle.tz_tzif.specs.FooterForce.{FooterZone}
-use Rattle.tz_tzif.specs.Ranges.{footer_miss}
-use Rattle.tz_tzif.specs.Standing.{stands_for}
-use Rattle.tz_tzif.specs.Values.{FooterValue, footer_in}
+use Rattle.tz_posix.specs.{Reading.{entry_in, offset_at}, declared.error.RangeError.{RangeError}}
+use Rattle.tz_tzif.specs.{FooterForce.{FooterZone}, Ranges.{footer_miss}, Standing.{stands_for}, Values.{FooterValue, footer_in}}
 
 -- where no part is out of its range
 abbrev pub if_in_ranges : FooterValue → Option RangeError → Option FooterZone

@@ -1,11 +1,8 @@
 -- What is seen of the code's footers.
 use Rattle.std.specs.Prelude.{Option, Some, None}
 use Rattle.zone_tzif_core.specs.Zones.{KindValue}
-use Rattle.tz_tzif.specs.FooterForce.{FooterZone, fixed, yearly}
+use Rattle.tz_tzif.specs.{FooterForce.{FooterZone, fixed, yearly}, declared.footer.Footer.{Footer}, declared.footer.Yearly.{Yearly}, declared.held.Held.{Held}}
 use Rattle.tz_posix.specs.Yearly.{time_shown}
-use Rattle.tz_tzif.specs.declared.footer.Footer.{Footer}
-use Rattle.tz_tzif.specs.declared.footer.Yearly.{Yearly}
-use Rattle.tz_tzif.specs.declared.held.Held.{Held}
 
 abbrev pub held_shown : Held → KindValue
 held_shown held = record { utoff = held.offset; is_dst = held.is_dst; name = held.name.now }

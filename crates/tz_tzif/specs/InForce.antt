@@ -1,11 +1,9 @@
 -- What a compiled zone puts in force, with what its footer says from its last change on. Seconds and instants count from
 -- 1970-01-01 00:00:00 UTC.
-use Rattle.std.specs.Prelude.{Bool, ℤ, int_le, List, filter, Option, Some, None, if◌then◌else◌}
-use Rattle.std.specs.List.{list_all}
+use Rattle.std.specs.{Prelude.{Bool, ℤ, int_le, List, filter, Option, Some, None, if◌then◌else◌}, List.{list_all}}
 use Rattle.civil_base.specs.Instants.{seconds_of}
 use Rattle.tz_tzif.specs.FooterForce.{FooterZone, held_at}
-use Rattle.zone_tzif_core.specs.Totals.{last_kind}
-use Rattle.zone_tzif_core.specs.Zones.{KindValue, ZoneValue}
+use Rattle.zone_tzif_core.specs.{Totals.{last_kind}, Zones.{KindValue, ZoneValue}}
 
 -- each change is at or before the second
 abbrev pub are_over : List (ℤ × KindValue) → ℤ → Bool

@@ -1,6 +1,5 @@
 -- The instants of a local time, by the few offsets that a zone has.
-use Rattle.std.specs.Prelude.{Bool, List, [], ◌∷◌, filter, ⊤, ℤ, ◌-ℤ◌, ◌<ℤ◌}
-use Rattle.std.specs.Ordering.{int_eq}
+use Rattle.std.specs.{Prelude.{Bool, List, [], ◌∷◌, filter, ⊤, ℤ, ◌-ℤ◌, ◌<ℤ◌}, Ordering.{int_eq}}
 
 -- each less than the one before, and the first less than a bound
 abbrev pub FallsFrom : ℤ → List ℤ → Type 0

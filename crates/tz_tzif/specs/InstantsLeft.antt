@@ -1,13 +1,7 @@
 -- What is left to give of the date-times of a local time.
 use Rattle.std.specs.Prelude.{List, map, drop}
-use Rattle.civil_base.specs.DateTimes.{at_offset}
-use Rattle.civil_base.specs.declared.offset_date_time.OffsetDateTime.{OffsetDateTime}
-use Rattle.tz_tzif.specs.InForce.{total_in}
-use Rattle.tz_tzif.specs.Instants.{read_at}
-use Rattle.tz_tzif.specs.Kept.{items_of}
-use Rattle.tz_tzif.specs.Zones.{value_of, says_of}
-use Rattle.tz_tzif.specs.declared.instants.TzifCursor.{TzifCursor}
-use Rattle.tz_tzif.specs.declared.zone.TzifTz.{TzifTz}
+use Rattle.civil_base.specs.{DateTimes.{at_offset}, declared.offset_date_time.OffsetDateTime.{OffsetDateTime}}
+use Rattle.tz_tzif.specs.{InForce.{total_in}, Instants.{read_at}, Kept.{items_of}, Zones.{value_of, says_of}, declared.instants.TzifCursor.{TzifCursor}, declared.zone.TzifTz.{TzifTz}}
 
 -- the local time at each offset that is read, from the next one on
 abbrev pub dates_left : TzifTz → TzifCursor → List OffsetDateTime

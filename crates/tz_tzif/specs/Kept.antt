@@ -1,10 +1,6 @@
 -- The offsets that a zone remembers.
 use Rattle.std.specs.Prelude.{◌≡◌, ℤ, List, Option}
-use Rattle.tz_tzif.specs.FooterForce.{FooterZone}
-use Rattle.tz_tzif.specs.Faults.{IsAcceptedFile}
-use Rattle.tz_tzif.specs.Offsets.{offsets_of, AreOffsets}
-use Rattle.tz_tzif.specs.declared.kept.KeptOffsets.{KeptOffsets}
-use Rattle.tz_tzif.specs.declared.kept.KeptOffsets.TheVariants.{Owned, Lent}
+use Rattle.tz_tzif.specs.{FooterForce.{FooterZone}, Faults.{IsAcceptedFile}, Offsets.{offsets_of, AreOffsets}, declared.kept.KeptOffsets.{KeptOffsets}, declared.kept.KeptOffsets.TheVariants.{Owned, Lent}}
 use Rattle.zone_tzif_core.specs.Zones.{ZoneValue}
 
 abbrev pub items_of : KeptOffsets → List ℤ

@@ -1,9 +1,7 @@
 -- The next offset of a zone that is read at a local second.
 use Rattle.std.specs.Prelude.{◌≡◌, ℕ, ◌≤◌, ◌<◌, ◌+◌, List, ◌∷◌, drop, length, ℤ, ◌-ℤ◌}
-use Rattle.tz_tzif.specs.FooterShown.{held_shown}
-use Rattle.tz_tzif.specs.declared.held.Held.{Held}
+use Rattle.tz_tzif.specs.{FooterShown.{held_shown}, declared.held.Held.{Held}, Instants.{read_at}}
 use Rattle.zone_tzif_core.specs.Zones.{KindValue}
-use Rattle.tz_tzif.specs.Instants.{read_at}
 
 -- the kind in force at the second at which clocks at the offset show the local second, where it has that offset
 pub record IsHeldFor (kind : ℤ → KindValue) (local o : ℤ) (held : Held) : Type 0 where

@@ -1,6 +1,5 @@
 -- The distinct offsets of a compiled zone, the greatest first.
-use Rattle.std.specs.Prelude.{Bool, false, cond, ⊤, List, [], ◌∷◌, Some, None, Option, ℤ, int_lt}
-use Rattle.std.specs.Ordering.{int_eq}
+use Rattle.std.specs.{Prelude.{Bool, false, cond, ⊤, List, [], ◌∷◌, Some, None, Option, ℤ, int_lt}, Ordering.{int_eq}}
 use Rattle.civil_base.specs.Ranges.{IsOffset}
 use Rattle.tz_tzif.specs.FooterForce.{FooterZone, standard_total, saving_total}
 use Rattle.zone_tzif_core.specs.Zones.{KindValue, ZoneValue}

@@ -1,11 +1,8 @@
 -- What is seen of footers that own their abbreviations.
 use Rattle.std.specs.Prelude.{Option, Some, None, string_bytes}
 use Rattle.zone_tzif_core.specs.Zones.{KindValue}
-use Rattle.tz_tzif.specs.FooterForce.{FooterZone, fixed, yearly}
+use Rattle.tz_tzif.specs.{FooterForce.{FooterZone, fixed, yearly}, declared.own_footer.OwnFooter.{OwnFooter}, declared.own_footer.OwnHeld.{OwnHeld}, declared.own_footer.OwnYearly.{OwnYearly}}
 use Rattle.tz_posix.specs.Yearly.{time_shown}
-use Rattle.tz_tzif.specs.declared.own_footer.OwnFooter.{OwnFooter}
-use Rattle.tz_tzif.specs.declared.own_footer.OwnHeld.{OwnHeld}
-use Rattle.tz_tzif.specs.declared.own_footer.OwnYearly.{OwnYearly}
 
 abbrev pub own_held : OwnHeld → KindValue
 own_held held = record { utoff = held.offset; is_dst = held.is_dst; name = string_bytes held.name }

@@ -1,10 +1,7 @@
 -- What is seen of a compiled zone that is owned with what its footer says.
 use Rattle.std.specs.Prelude.{◌≡◌, option_map}
-use Rattle.tz_tzif.specs.Faults.{IsAcceptedFile}
-use Rattle.tz_tzif.specs.OwnShown.{own_shown}
-use Rattle.tz_tzif.specs.declared.own_zone.OwnZone.{OwnZone}
-use Rattle.zone_tzif_core.specs.ZoneFiles.{zone_seen}
-use Rattle.zone_tzif_core.specs.Zones.{ZoneValue}
+use Rattle.tz_tzif.specs.{Faults.{IsAcceptedFile}, OwnShown.{own_shown}, declared.own_zone.OwnZone.{OwnZone}}
+use Rattle.zone_tzif_core.specs.{ZoneFiles.{zone_seen}, Zones.{ZoneValue}}
 
 abbrev pub own_value : OwnZone → ZoneValue
 own_value own = zone_seen own.zone

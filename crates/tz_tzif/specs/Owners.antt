@@ -1,11 +1,7 @@
 -- What is seen of an owner of a compiled zone.
 use Rattle.std.specs.Prelude.{◌≡◌, ℤ, Option}
-use Rattle.tz_tzif.specs.FooterForce.{FooterZone}
-use Rattle.tz_tzif.specs.Faults.{IsAcceptedFile, SaysInFooter}
-use Rattle.tz_tzif.specs.InForce.{total_in}
-use Rattle.tz_tzif.specs.declared.owner.TzifOwner.{TzifOwner}
-use Rattle.zone_tzif_core.specs.ZoneFiles.{zone_seen}
-use Rattle.zone_tzif_core.specs.Zones.{ZoneValue}
+use Rattle.tz_tzif.specs.{FooterForce.{FooterZone}, Faults.{IsAcceptedFile, SaysInFooter}, InForce.{total_in}, declared.owner.TzifOwner.{TzifOwner}}
+use Rattle.zone_tzif_core.specs.{ZoneFiles.{zone_seen}, Zones.{ZoneValue}}
 
 -- the value
 abbrev pub value_in : TzifOwner → ZoneValue

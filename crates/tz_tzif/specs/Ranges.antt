@@ -1,10 +1,7 @@
 -- The ranges of a footer's parts.
 use Rattle.std.specs.Prelude.{◌≡◌, ℕ, List, Option, None}
-use Rattle.tz_posix.specs.Ranges.{first_miss}
-use Rattle.tz_posix.specs.Spells.{signed_times}
-use Rattle.tz_posix.specs.declared.error.RangeError.{RangeError}
-use Rattle.tz_tzif.specs.Spells.{SpellsFooter}
-use Rattle.tz_tzif.specs.Values.{FooterValue, tz_of}
+use Rattle.tz_posix.specs.{Ranges.{first_miss}, Spells.{signed_times}, declared.error.RangeError.{RangeError}}
+use Rattle.tz_tzif.specs.{Spells.{SpellsFooter}, Values.{FooterValue, tz_of}}
 
 -- the first part that is out of its range
 abbrev pub footer_miss : FooterValue → Option RangeError

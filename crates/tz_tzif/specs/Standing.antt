@@ -1,12 +1,7 @@
 -- What the value of a footer stands for.
-use Rattle.std.specs.Prelude.{◌≡◌, ℕ, Bool, true, false, List, Option, Some, None, ℤ, pos, ◌+ℤ◌}
-use Rattle.std.specs.Option.{option_map_or}
-use Rattle.tz_posix.specs.InForce.{moment_of}
-use Rattle.tz_posix.specs.Seconds.{east_of}
-use Rattle.tz_posix.specs.Spells.{signed_times}
-use Rattle.tz_tzif.specs.FooterForce.{FooterZone, fixed, yearly}
-use Rattle.tz_tzif.specs.Ranges.{IsFooterOf}
-use Rattle.tz_tzif.specs.Values.{SavingValue, FooterValue}
+use Rattle.std.specs.{Prelude.{◌≡◌, ℕ, Bool, true, false, List, Option, Some, None, ℤ, pos, ◌+ℤ◌}, Option.{option_map_or}}
+use Rattle.tz_posix.specs.{InForce.{moment_of}, Seconds.{east_of}, Spells.{signed_times}}
+use Rattle.tz_tzif.specs.{FooterForce.{FooterZone, fixed, yearly}, Ranges.{IsFooterOf}, Values.{SavingValue, FooterValue}}
 use Rattle.zone_tzif_core.specs.Zones.{KindValue}
 
 abbrev pub kind_of : List ℕ → ℤ → Bool → KindValue

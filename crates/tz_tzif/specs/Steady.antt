@@ -1,8 +1,7 @@
 -- How long what changes put in force holds.
 use Rattle.std.specs.Prelude.{◌≡◌, ◌<◌, ℕ, ℤ, pos, nat_eq, ◌≤ℤ◌, ◌<ℤ◌, int_le, List, filter, length, slice_index_or, take}
 use Rattle.tz_tzif.specs.InForce.{are_over}
-use Rattle.zone_tzif_core.specs.ZoneFiles.{unnumbered}
-use Rattle.zone_tzif_core.specs.Zones.{KindValue}
+use Rattle.zone_tzif_core.specs.{ZoneFiles.{unnumbered}, Zones.{KindValue}}
 
 -- the first so many of the changes are those at or before the second
 pub record AreFirst (changes : List (ℤ × KindValue)) (count : ℕ) (s : ℤ) : Type 0 where

@@ -1,8 +1,6 @@
 -- What a footer says, with names by their bytes.
 use Rattle.std.specs.Prelude.{ℕ, List, Option, Some, None, option_map}
-use Rattle.tz_posix.specs.Values.{StdPart, DstPart, Value, short, expanded}
-use Rattle.tz_posix.specs.declared.time.Offset.{Offset}
-use Rattle.tz_posix.specs.declared.values.Rule.{Rule}
+use Rattle.tz_posix.specs.{Values.{StdPart, DstPart, Value, short, expanded}, declared.time.Offset.{Offset}, declared.values.Rule.{Rule}}
 
 pub record SavingValue : Type 0 where
   pub name : List ℕ

@@ -1,12 +1,7 @@
 -- What is seen of a compiled zone that can be looked up.
 use Rattle.std.specs.Prelude.{◌≡◌, ℕ, Bool, List, Option, option_map, ℤ}
-use Rattle.tz_tzif.specs.FooterShown.{footer_shown}
-use Rattle.tz_tzif.specs.FooterForce.{FooterZone}
-use Rattle.zone_tzif_core.specs.ZoneFiles.{zone_seen}
-use Rattle.zone_tzif_core.specs.Zones.{KindValue, ZoneValue}
-use Rattle.tz_tzif.specs.Faults.{IsAcceptedFile}
-use Rattle.tz_tzif.specs.InForce.{kind_at}
-use Rattle.tz_tzif.specs.declared.zone.TzifTz.{TzifTz}
+use Rattle.tz_tzif.specs.{FooterShown.{footer_shown}, FooterForce.{FooterZone}, Faults.{IsAcceptedFile}, InForce.{kind_at}, declared.zone.TzifTz.{TzifTz}}
+use Rattle.zone_tzif_core.specs.{ZoneFiles.{zone_seen}, Zones.{KindValue, ZoneValue}}
 
 -- the value
 abbrev pub value_of : TzifTz → ZoneValue

@@ -1,10 +1,7 @@
 //! The tests of a compiled zone.
-ghost use Rattle.std.specs.Prelude.{◌≡◌, MatchOption, MatchResult, option_map};
-ghost use Rattle.std.specs.List.{list_all};
-ghost use Rattle.zone_tzif_core.specs.ZoneFiles.{zone_seen};
-ghost use Rattle.zone_tzif_core.specs.Zones.{is_small, rises};
-ghost use Rattle.tz_tzif.specs.FooterShown.{footer_shown};
-ghost use Rattle.tz_tzif.specs.Faults.{are_small, IsAcceptedFile, IsTzifFault, IsNoFooter, SaysInFooter};
+ghost use Rattle.std.specs.{Prelude.{◌≡◌, MatchOption, MatchResult, option_map}, List.{list_all}};
+ghost use Rattle.zone_tzif_core.specs.{ZoneFiles.{zone_seen}, Zones.{is_small, rises}};
+ghost use Rattle.tz_tzif.specs.{FooterShown.{footer_shown}, Faults.{are_small, IsAcceptedFile, IsTzifFault, IsNoFooter, SaysInFooter}};
 
 use crate::fault::TzifFault;
 use crate::footer::Footer;

@@ -1,9 +1,6 @@
 //! The totals of a zone from 1901 to 2038, kept so that most look-ups need no search.
 ghost use Rattle.std.specs.Prelude.{◌≡◌, ◌≤◌, ◌<◌, ℤ, pos, ◌+ℤ◌, ◌≤ℤ◌, ◌<ℤ◌, IfOk, IfSome, unsigned_abs};
-ghost use Rattle.tz_tzif.specs.Cells.{begin_of, first_second, AreCells, IsCell};
-ghost use Rattle.tz_tzif.specs.Lasting.{IsTold};
-ghost use Rattle.tz_tzif.specs.InForce.{total_in};
-ghost use Rattle.tz_tzif.specs.Zones.{value_of, says_of};
+ghost use Rattle.tz_tzif.specs.{Cells.{begin_of, first_second, AreCells, IsCell}, Lasting.{IsTold}, InForce.{total_in}, Zones.{value_of, says_of}};
 
 use crate::zone::TzifTz;
 use std::alloc::{AllocError, Global};

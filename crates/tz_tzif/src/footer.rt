@@ -1,14 +1,7 @@
 //! Footers and what they put in force.
 ghost use Rattle.std.specs.Prelude.{◌≡◌, ◌≤◌, None, option_and_then, unsigned_abs, ℤ, ◌≤ℤ◌, ◌<ℤ◌};
-ghost use Rattle.tz_tzif.specs.Ranges.{footer_miss};
-ghost use Rattle.tz_tzif.specs.Shown.{saving_shown, text_shown};
-ghost use Rattle.tz_tzif.specs.FooterShown.{held_shown};
-ghost use Rattle.tz_tzif.specs.Standing.{saving_kind};
-ghost use Rattle.tz_posix.specs.InForce.{moment_of};
-ghost use Rattle.tz_posix.specs.Ranges.{offset_miss, rule_range};
-ghost use Rattle.tz_posix.specs.Seconds.{IsWritten};
-ghost use Rattle.tz_posix.specs.Spells.{signed_times};
-ghost use Rattle.tz_posix.specs.Yearly.{time_shown};
+ghost use Rattle.tz_tzif.specs.{Ranges.{footer_miss}, Shown.{saving_shown, text_shown}, FooterShown.{held_shown}, Standing.{saving_kind}};
+ghost use Rattle.tz_posix.specs.{InForce.{moment_of}, Ranges.{offset_miss, rule_range}, Seconds.{IsWritten}, Spells.{signed_times}, Yearly.{time_shown}};
 
 use crate::held::Held;
 use crate::range::check;
@@ -34,11 +27,7 @@ pub(crate) struct Yearly<'a> {
 
 impl<'a> Footer<'a> {
     ghost use Rattle.std.specs.Prelude.{MatchOption};
-    ghost use Rattle.tz_tzif.specs.FooterShown.{footer_shown};
-    ghost use Rattle.tz_tzif.specs.FooterForce.{held_at, standard_total, saving_total};
-    ghost use Rattle.tz_tzif.specs.Ranges.{IsFooterOf};
-    ghost use Rattle.tz_tzif.specs.Standing.{StandsFor, stands_for};
-    ghost use Rattle.tz_tzif.specs.Values.{FooterValue};
+    ghost use Rattle.tz_tzif.specs.{FooterShown.{footer_shown}, FooterForce.{held_at, standard_total, saving_total}, Ranges.{IsFooterOf}, Standing.{StandsFor, stands_for}, Values.{FooterValue}};
 
     /// What a whole footer stands for. There is nothing exactly where the text is no footer, or has a part that is out of its
     /// range: more than 24 hours of an offset (24:59:59 is taken), more than 167 of a rule's time, a minute or a second past 59,

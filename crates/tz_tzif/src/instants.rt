@@ -1,11 +1,6 @@
 //! The instants of a local time, by the few offsets that a zone has: each is tried, from the greatest to the least.
 ghost use Rattle.std.specs.Prelude.{◌≡◌, ◌≤◌, ◌<◌, ◌+◌, ◌∷◌, [], ◌-ℤ◌, drop, length, map, unsigned_abs, true, false, MatchOption, slice_index_or, pos, ℤ};
-ghost use Rattle.tz_tzif.specs.FooterShown.{held_shown};
-ghost use Rattle.tz_tzif.specs.InForce.{kind_in, total_in};
-ghost use Rattle.tz_tzif.specs.Instants.{is_read, read_at};
-ghost use Rattle.tz_tzif.specs.Kept.{items_of};
-ghost use Rattle.tz_tzif.specs.Next.{IsHeldFor, IsNext};
-ghost use Rattle.tz_tzif.specs.Zones.{value_of, says_of};
+ghost use Rattle.tz_tzif.specs.{FooterShown.{held_shown}, InForce.{kind_in, total_in}, Instants.{is_read, read_at}, Kept.{items_of}, Next.{IsHeldFor, IsNext}, Zones.{value_of, says_of}};
 
 use crate::held::Held;
 use crate::zone::TzifTz;

@@ -1,12 +1,8 @@
 //! What the grammar of footers says, and what a compiled zone's totals are beside those of its changes alone.
 ghost use Rattle.std.specs.Prelude.{◌≡◌, ℕ, ℤ, List, true, false, Some, None};
 ghost use Rattle.civil_base.specs.Instants.{seconds_of};
-ghost use Rattle.tz_tzif.specs.FooterForce.{FooterZone, held_at};
-ghost use Rattle.tz_tzif.specs.InForce.{are_over, told_total_at};
-ghost use Rattle.tz_tzif.specs.Spells.{SpellsFooter};
-ghost use Rattle.tz_tzif.specs.Values.{FooterValue};
-ghost use Rattle.zone_tzif_core.specs.Totals.{file_total_at};
-ghost use Rattle.zone_tzif_core.specs.Zones.{ZoneValue};
+ghost use Rattle.tz_tzif.specs.{FooterForce.{FooterZone, held_at}, InForce.{are_over, told_total_at}, Spells.{SpellsFooter}, Values.{FooterValue}};
+ghost use Rattle.zone_tzif_core.specs.{Totals.{file_total_at}, Zones.{ZoneValue}};
 
 /// Where nothing is said in the footer, or some change lies after the instant, the total is that of the last change at or before it;
 /// from the last change on it is what the footer says.

@@ -1,7 +1,6 @@
 //! The distinct offsets of a compiled zone, the greatest first.
 ghost use Rattle.std.specs.Prelude.{◌≡◌, ◌≤◌, OnOk, IfOk, cond, insert, length, drop, option_map};
-ghost use Rattle.tz_tzif.specs.FooterShown.{footer_shown};
-ghost use Rattle.tz_tzif.specs.Offsets.{AreOffsets, begins_with, offsets_of, put, put_all, put_footer};
+ghost use Rattle.tz_tzif.specs.{FooterShown.{footer_shown}, Offsets.{AreOffsets, begins_with, offsets_of, put, put_all, put_footer}};
 ghost use Rattle.zone_tzif_core.specs.ZoneFiles.{zone_seen};
 
 use crate::footer::Footer;

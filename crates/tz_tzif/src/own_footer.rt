@@ -1,7 +1,6 @@
 //! Footers that own their abbreviations, so that whoever keeps a zone reads its footer once.
 ghost use Rattle.std.specs.Prelude.{◌≡◌, IfOk, option_map};
-ghost use Rattle.tz_tzif.specs.FooterShown.{footer_shown, held_shown};
-ghost use Rattle.tz_tzif.specs.OwnShown.{own_held, own_shown};
+ghost use Rattle.tz_tzif.specs.{FooterShown.{footer_shown, held_shown}, OwnShown.{own_held, own_shown}};
 
 use crate::footer::{Footer, Yearly};
 use crate::held::Held;

@@ -1,15 +1,8 @@
 //! Compiled zones with what their footers say, which own both.
 ghost use Rattle.std.specs.Prelude.{◌≡◌, ℤ, [], IfOk, MatchResult, Some, option_map, true};
 ghost use Rattle.civil_base.specs.Ranges.{IsOffset};
-ghost use Rattle.tz_tzif.specs.FooterReading.{footer_reading};
-ghost use Rattle.tz_tzif.specs.FooterShown.{footer_shown};
-ghost use Rattle.tz_tzif.specs.Faults.{are_small, IsTzifFault};
-ghost use Rattle.tz_tzif.specs.InForce.{told_total_at};
-ghost use Rattle.tz_tzif.specs.Kept.{AreKept};
-ghost use Rattle.tz_tzif.specs.Offsets.{offsets_of, AreOffsets};
-ghost use Rattle.tz_tzif.specs.OwnShown.{own_shown};
-ghost use Rattle.zone_tzif_core.specs.ZoneFiles.{zone_seen};
-ghost use Rattle.zone_tzif_core.specs.Zones.{rises};
+ghost use Rattle.tz_tzif.specs.{FooterReading.{footer_reading}, FooterShown.{footer_shown}, Faults.{are_small, IsTzifFault}, InForce.{told_total_at}, Kept.{AreKept}, Offsets.{offsets_of, AreOffsets}, OwnShown.{own_shown}};
+ghost use Rattle.zone_tzif_core.specs.{ZoneFiles.{zone_seen}, Zones.{rises}};
 
 use crate::accept::accepted_footer;
 use crate::fault::TzifFault;
@@ -43,8 +36,7 @@ pub(crate) struct Kept {
 }
 
 impl OwnZone {
-    ghost use Rattle.tz_tzif.specs.OwnZones.{own_value, IsOwnOf};
-    ghost use Rattle.tz_tzif.specs.Zones.{says_of, IsZoneOf};
+    ghost use Rattle.tz_tzif.specs.{OwnZones.{own_value, IsOwnOf}, Zones.{says_of, IsZoneOf}};
 
     /// The zone of a value that can be looked up.
     ///

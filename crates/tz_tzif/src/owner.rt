@@ -1,10 +1,7 @@
 //! Compiled zones that own what they are asked for.
 ghost use Rattle.std.specs.Prelude.{◌≡◌, ◌≤◌, IfOk, MatchResult, option_map, unsigned_abs};
 ghost use Rattle.civil_base.specs.Ranges.{IsOffset};
-ghost use Rattle.tz_tzif.specs.Cells.{AreCells};
-ghost use Rattle.tz_tzif.specs.Faults.{IsNoFooter, IsTzifFault};
-ghost use Rattle.tz_tzif.specs.InForce.{total_in};
-ghost use Rattle.tz_tzif.specs.OwnShown.{own_shown};
+ghost use Rattle.tz_tzif.specs.{Cells.{AreCells}, Faults.{IsNoFooter, IsTzifFault}, InForce.{total_in}, OwnShown.{own_shown}};
 ghost use Rattle.zone_tzif_core.specs.ZoneFiles.{zone_seen};
 
 use crate::cells::{Cell, cells_of, told_among};
@@ -26,8 +23,7 @@ pub struct TzifOwner {
 }
 
 impl TzifOwner {
-    ghost use Rattle.tz_tzif.specs.Owners.{value_in, IsOwnerOf, IsTotalIn};
-    ghost use Rattle.tz_tzif.specs.Zones.{IsZoneOf};
+    ghost use Rattle.tz_tzif.specs.{Owners.{value_in, IsOwnerOf, IsTotalIn}, Zones.{IsZoneOf}};
 
     /// The owner of a value that can be looked up.
     ///

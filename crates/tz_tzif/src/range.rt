@@ -1,8 +1,6 @@
 //! The ranges of a footer's parts.
-ghost use Rattle.std.specs.Prelude.{◌≡◌};
-ghost use Rattle.std.specs.Result.{result_err};
-ghost use Rattle.tz_tzif.specs.Ranges.{footer_miss};
-ghost use Rattle.tz_tzif.specs.Shown.{text_shown};
+ghost use Rattle.std.specs.{Prelude.{◌≡◌}, Result.{result_err}};
+ghost use Rattle.tz_tzif.specs.{Ranges.{footer_miss}, Shown.{text_shown}};
 
 use crate::values::FooterText;
 use tz_posix::RangeError;

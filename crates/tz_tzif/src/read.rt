@@ -1,8 +1,6 @@
 //! The reader: a whole footer to its value.
 ghost use Rattle.std.specs.Prelude.{◌≡◌, option_map, MatchOption};
-ghost use Rattle.tz_tzif.specs.Shown.{text_shown};
-ghost use Rattle.tz_tzif.specs.Spells.{SpellsFooter};
-ghost use Rattle.tz_tzif.specs.Values.{FooterValue, footer_in};
+ghost use Rattle.tz_tzif.specs.{Shown.{text_shown}, Spells.{SpellsFooter}, Values.{FooterValue, footer_in}};
 ghost use Rattle.tz_posix.specs.Shown.{tz_shown};
 
 use crate::values::{FooterRule, FooterText, Saving};

@@ -3,8 +3,7 @@ ghost use Rattle.std.specs.Prelude.{◌≡◌, ◌≤◌, unsigned_abs, ℤ, pos
 ghost use Rattle.basics.specs.Days.{IsCountedYear, day as day_at};
 ghost use Rattle.civil_base.specs.Ranges.{IsOffset};
 ghost use Rattle.tz_tzif.specs.FooterForce.{is_footer_saving, is_saved_since as since_by, year_before as last_of};
-ghost use Rattle.tz_posix.specs.InForce.{moments_in};
-ghost use Rattle.tz_posix.specs.Yearly.{time_shown};
+ghost use Rattle.tz_posix.specs.{InForce.{moments_in}, Yearly.{time_shown}};
 
 use crate::moments::{has_begun, is_reversed, is_saved, next_of, year_after, year_before};
 use civil_base::UtcOffset;

@@ -1,14 +1,7 @@
 //! What holds at a second, by a search among the changes.
-ghost use Rattle.std.specs.Prelude.{◌≡◌, ◌≤◌, ◌<◌, ◌<ℤ◌, ℤ, int_le, nat_eq, length, pos, slice_index_or, take, true, filter};
-ghost use Rattle.std.specs.List.{list_all};
-ghost use Rattle.tz_tzif.specs.FooterShown.{held_shown};
-ghost use Rattle.tz_tzif.specs.InForce.{are_over};
-ghost use Rattle.zone_tzif_core.specs.Shown.{record_shown};
-ghost use Rattle.zone_tzif_core.specs.Totals.{last_kind};
-ghost use Rattle.tz_tzif.specs.Steady.{IsSteady};
-ghost use Rattle.zone_tzif_core.specs.ZoneFiles.{unnumbered, zone_seen};
-ghost use Rattle.zone_tzif_core.specs.Zones.{is_small, rises};
-ghost use Rattle.tz_tzif.specs.Faults.{are_small};
+ghost use Rattle.std.specs.{Prelude.{◌≡◌, ◌≤◌, ◌<◌, ◌<ℤ◌, ℤ, int_le, nat_eq, length, pos, slice_index_or, take, true, filter}, List.{list_all}};
+ghost use Rattle.tz_tzif.specs.{FooterShown.{held_shown}, InForce.{are_over}, Steady.{IsSteady}, Faults.{are_small}};
+ghost use Rattle.zone_tzif_core.specs.{Shown.{record_shown}, Totals.{last_kind}, ZoneFiles.{unnumbered, zone_seen}, Zones.{is_small, rises}};
 
 use crate::held::Held;
 use civil_base::UtcOffset;

@@ -2,15 +2,8 @@
 ghost use Rattle.std.specs.Prelude.{◌≡◌, ℕ, ℤ, ◌≤◌, true, length, option_map};
 ghost use Rattle.civil_base.specs.Ranges.{IsOffset};
 ghost use Rattle.zone_spans.specs.Schedules.{instants};
-ghost use Rattle.zone_tzif_core.specs.ZoneFiles.{zone_seen};
-ghost use Rattle.zone_tzif_core.specs.Zones.{rises};
-ghost use Rattle.tz_tzif.specs.FooterShown.{footer_shown};
-ghost use Rattle.tz_tzif.specs.Faults.{are_small};
-ghost use Rattle.tz_tzif.specs.Cells.{AreCells};
-ghost use Rattle.tz_tzif.specs.Lasting.{HoldsUntil, IsTold};
-ghost use Rattle.tz_tzif.specs.InForce.{told_total_at, total_in};
-ghost use Rattle.tz_tzif.specs.Kept.{items_of};
-ghost use Rattle.tz_tzif.specs.Offsets.{offsets_of};
+ghost use Rattle.zone_tzif_core.specs.{ZoneFiles.{zone_seen}, Zones.{rises}};
+ghost use Rattle.tz_tzif.specs.{FooterShown.{footer_shown}, Faults.{are_small}, Cells.{AreCells}, Lasting.{HoldsUntil, IsTold}, InForce.{told_total_at, total_in}, Kept.{items_of}, Offsets.{offsets_of}};
 
 use crate::accept::accepted_footer;
 use crate::cells::{Cell, told_among};
@@ -48,12 +41,8 @@ pub struct TzifTz<'a> {
 impl<'a> TzifTz<'a> {
     ghost use Rattle.std.specs.Prelude.{◌↔◌, IfSome, IsTrue, MatchResult, map, unsigned_abs, ◌≤ℤ◌, ◌<ℤ◌};
     ghost use Rattle.civil_base.specs.DateTimes.{instant};
-    ghost use Rattle.tz_zone.specs.AllLeft.{all_left};
-    ghost use Rattle.tz_zone.specs.InForce.{all_in_force, shown_of, AreInstants};
-    ghost use Rattle.tz_tzif.specs.FooterShown.{held_shown};
-    ghost use Rattle.tz_tzif.specs.Faults.{IsTzifFault};
-    ghost use Rattle.tz_tzif.specs.InForce.{kind_in};
-    ghost use Rattle.tz_tzif.specs.Zones.{value_of, says_of, IsZoneOf};
+    ghost use Rattle.tz_zone.specs.{AllLeft.{all_left}, InForce.{all_in_force, shown_of, AreInstants}};
+    ghost use Rattle.tz_tzif.specs.{FooterShown.{held_shown}, Faults.{IsTzifFault}, InForce.{kind_in}, Zones.{value_of, says_of, IsZoneOf}};
 
     /// The zone of a value, under that name.
     ///

@@ -1,17 +1,11 @@
 -- Spans that contain a local time, and the instants that read as it.
-use Rattle.std.proofs.Common.{◌≡◌, ℕ, zero, suc, ◌<◌, List, [], ◌∷◌, map, ℤ, pos, ◌+ℤ◌, ◌-ℤ◌, ◌*ℤ◌, ◌<ℤ◌, refl, sym, ap, ◌∙◌, subst, ◌⊎◌, ⊎_elim, inl, inr, arith}
+use Rattle.std.proofs.{Common.{◌≡◌, ℕ, zero, suc, ◌<◌, List, [], ◌∷◌, map, ℤ, pos, ◌+ℤ◌, ◌-ℤ◌, ◌*ℤ◌, ◌<ℤ◌, refl, sym, ap, ◌∙◌, subst, ◌⊎◌, ⊎_elim, inl, inr, arith}, lemmas.Int.{ints}, lemmas.Bool.{cases_lt}}
 use Rattle.std.specs.Prelude.{Contains, AllPairs, IsTrue}
-use Rattle.std.proofs.lemmas.Int.{ints}
-use Rattle.std.proofs.lemmas.Bool.{cases_lt}
 use Rattle.civil_base.specs.Instants.{seconds_of, instant_at}
-use Rattle.zone_spans.specs.Schedules.{Schedule, total_at, is_in_offset_range}
-use Rattle.tz_zone.specs.Spans.{total_of, IsIn, TimesDontFall, IsOrderly, total_from}
-use Rattle.tz_zone.specs.InForce.{totals_at, AreInstants}
-use Rattle.tz_zone.proofs.SpanLemmas.{total_in, span_of, total_falls, neighbours}
-use Rattle.tz_zone.specs.RisingLaws.{pairs_more, contains_head, contains_more}
-use Rattle.tz_zone.specs.InstantLaws.{from_reading, instants_one}
-use Rattle.zone_spans.specs.ScheduleLaws.{total_is_offset}
+use Rattle.zone_spans.specs.{Schedules.{Schedule, total_at, is_in_offset_range}, ScheduleLaws.{total_is_offset}}
+use Rattle.tz_zone.specs.{Spans.{total_of, IsIn, TimesDontFall, IsOrderly, total_from}, InForce.{totals_at, AreInstants}, RisingLaws.{pairs_more, contains_head, contains_more}, InstantLaws.{from_reading, instants_one}}
 use Rattle.tz_zone.specs.SecondLaws.{seconds_of-instant_at, total_is}
+use Rattle.tz_zone.proofs.SpanLemmas.{total_in, span_of, total_falls, neighbours}
 
 abbrev pub Holds : Schedule → ℕ → ℤ → Type 0
 Holds zone k x = IsIn zone.first zone.shifts k (seconds_of x)

@@ -1,20 +1,9 @@
 -- A compiled set whose offsets are in range can be looked up.
-use Rattle.std.proofs.Common.{◌≡◌, ℕ, zero, suc, ◌<◌, true, false, List, [], ◌∷◌, length, map, ℤ, pos, ◌≤ℤ◌, sym, ap, ◌∙◌, subst, arith}
-use Rattle.std.specs.Prelude.{All, Option, Some, Result, Ok}
-use Rattle.std.specs.List.{list_all}
-use Rattle.std.proofs.lemmas.Bool.{and_parts}
+use Rattle.std.{proofs.Common.{◌≡◌, ℕ, zero, suc, ◌<◌, true, false, List, [], ◌∷◌, length, map, ℤ, pos, ◌≤ℤ◌, sym, ap, ◌∙◌, subst, arith}, specs.Prelude.{All, Option, Some, Result, Ok}, specs.List.{list_all}, proofs.lemmas.Bool.{and_parts}}
 use Rattle.basics.specs.ComparisonLaws.{le_from_pass, le_itself, le_le}
-use Rattle.zone_spans.specs.Bounds.{is_small, is_bounded_span, is_bounded_entry, is_bounded}
-use Rattle.zone_spans.specs.Collapse.{EntryTimesDontFall}
-use Rattle.zone_spans.specs.Entries.{Entry}
-use Rattle.zone_spans.specs.Schedules.{is_in_offset_range}
+use Rattle.zone_spans.specs.{Bounds.{is_small, is_bounded_span, is_bounded_entry, is_bounded}, Collapse.{EntryTimesDontFall}, Entries.{Entry}, Schedules.{is_in_offset_range}, declared.fault.SpanFault.{SpanFault}}
 use Rattle.zone_spans.specs.declared.span.FixedTimespanSet as spans
-use Rattle.zone_spans.specs.declared.fault.SpanFault.{SpanFault}
-use Rattle.tz_zone.specs.declared.set.FixedTimespanSet.{FixedTimespanSet}
-use Rattle.tz_zone.specs.Compiles.{spans_of, IsTooFar}
-use Rattle.tz_zone.specs.CompileLaws.{totals_same}
-use Rattle.tz_zone.specs.Sets.{shift_of, schedule_of, IsAccepted, IsSpanTime}
-use Rattle.tz_zone.specs.Spans.{shift_at, TimesDontFall}
+use Rattle.tz_zone.specs.{declared.set.FixedTimespanSet.{FixedTimespanSet}, Compiles.{spans_of, IsTooFar}, CompileLaws.{totals_same}, Sets.{shift_of, schedule_of, IsAccepted, IsSpanTime}, Spans.{shift_at, TimesDontFall}}
 use Rattle.tz_zone.proofs.SetLemmas.{all_shifts}
 
 -- the first is at or before each

@@ -1,14 +1,8 @@
 -- A search among entries for the last one at or before a second.
-use Rattle.std.proofs.Common.{◌≡◌, ℕ, zero, suc, ◌+◌, ◌<◌, ◌≤◌, Bool, true, false, cond, List, length, ℤ, int_le, int_lt, ltb, refl, ap, ◌∙◌, subst, ⊎_elim, arith}
-use Rattle.std.specs.Prelude.{◌&&◌}
-use Rattle.std.specs.declared.cmp.Ordering.TheVariants.{Less, Equal, Greater}
-use Rattle.std.proofs.lemmas.Bool.{cases_lt}
+use Rattle.std.proofs.{Common.{◌≡◌, ℕ, zero, suc, ◌+◌, ◌<◌, ◌≤◌, Bool, true, false, cond, List, length, ℤ, int_le, int_lt, ltb, refl, ap, ◌∙◌, subst, ⊎_elim, arith}, lemmas.Bool.{cases_lt}}
+use Rattle.std.specs.{Prelude.{◌&&◌}, declared.cmp.Ordering.TheVariants.{Less, Equal, Greater}}
 use Rattle.basics.specs.ComparisonLaws.{le_le, lt_fail, lt_from_fail, lt_from_pass, lt_le, lt_pass, opposed}
-use Rattle.tz_zone.specs.Spans.{Shift, shift_at, TimesDontFall, IsCut}
-use Rattle.tz_zone.specs.Search.{GoesUp}
-use Rattle.tz_zone.specs.Sets.{order_at, IsBetween}
-use Rattle.tz_zone.proofs.SpanLemmas.{cut_of}
-use Rattle.tz_zone.proofs.PlaceLemmas.{ended_false, ended_true, is_ended, not_ended}
+use Rattle.tz_zone.{specs.Spans.{Shift, shift_at, TimesDontFall, IsCut}, specs.Search.{GoesUp}, specs.Sets.{order_at, IsBetween}, proofs.SpanLemmas.{cut_of}, proofs.PlaceLemmas.{ended_false, ended_true, is_ended, not_ended}}
 
 is_greater : (a b : Bool) → cond a Greater (cond b Less Equal) ≡ Greater → a ≡ true
 is_greater true b e = refl

@@ -1,19 +1,9 @@
 -- The date-times of the spans that are found are at the instants of the local time.
-use Rattle.std.proofs.Common.{◌≡◌, ℕ, ◌+◌, ◌-◌, ◌≤◌, List, [], ◌∷◌, length, map, ℤ, refl, sym, ap, ◌∙◌, arith}
-use Rattle.std.proofs.lemmas.List.{length-map}
-use Rattle.civil_base.specs.DateTimes.{at_offset}
-use Rattle.civil_base.specs.Instants.{seconds_of}
-use Rattle.zone_spans.specs.Schedules.{total_at}
-use Rattle.civil_base.specs.Instants.{instant_at}
-use Rattle.tz_zone.specs.declared.set.FixedTimespanSet.{FixedTimespanSet}
-use Rattle.tz_zone.specs.InForce.{all_in_force, shown_of}
-use Rattle.tz_zone.specs.Scans.{spans_from}
-use Rattle.tz_zone.specs.Sets.{schedule_of, total_of_span, IsAccepted}
-use Rattle.zone_spans.specs.ScheduleLaws.{total_is_offset}
-use Rattle.tz_zone.proofs.ScanLemmas.{few_spans, scan_totals}
-use Rattle.tz_zone.proofs.SetLemmas.{count_same}
-use Rattle.tz_zone.proofs.TimeZoneLemmas.{in_force_from_totals}
-use Rattle.tz_zone.specs.InForceLaws.{shown_at_offset}
+use Rattle.std.proofs.{Common.{◌≡◌, ℕ, ◌+◌, ◌-◌, ◌≤◌, List, [], ◌∷◌, length, map, ℤ, refl, sym, ap, ◌∙◌, arith}, lemmas.List.{length-map}}
+use Rattle.civil_base.specs.{DateTimes.{at_offset}, Instants.{seconds_of}, Instants.{instant_at}}
+use Rattle.zone_spans.specs.{Schedules.{total_at}, ScheduleLaws.{total_is_offset}}
+use Rattle.tz_zone.specs.{declared.set.FixedTimespanSet.{FixedTimespanSet}, InForce.{all_in_force, shown_of}, Scans.{spans_from}, Sets.{schedule_of, total_of_span, IsAccepted}, InForceLaws.{shown_at_offset}}
+use Rattle.tz_zone.proofs.{ScanLemmas.{few_spans, scan_totals}, SetLemmas.{count_same}, TimeZoneLemmas.{in_force_from_totals}}
 
 dates_at : (x : ℤ) (total : ℕ → ℤ) (ks : List ℕ)
     → map shown_of (map (λ k. at_offset x (total k)) ks) ≡ map (λ o. (instant_at x o, o)) (map total ks)

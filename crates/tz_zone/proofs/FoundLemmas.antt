@@ -2,9 +2,7 @@
 use Rattle.std.proofs.Common.{◌≡◌, ℕ, ℤ, sym, ap, ◌∙◌}
 use Rattle.civil_base.specs.Instants.{seconds_of}
 use Rattle.zone_spans.specs.Schedules.{Schedule, total_at}
-use Rattle.tz_zone.specs.Spans.{total_of, IsCut, total_from}
-use Rattle.tz_zone.specs.SpanLaws.{total_from_cut}
-use Rattle.tz_zone.specs.SecondLaws.{total_is}
+use Rattle.tz_zone.specs.{Spans.{total_of, IsCut, total_from}, SpanLaws.{total_from_cut}, SecondLaws.{total_is}}
 
 pub at_cut : (zone : Schedule) (t s : ℤ) (k : ℕ) → s ≡ seconds_of t → IsCut zone.shifts k s
     → total_of zone.first zone.shifts k ≡ total_at zone t

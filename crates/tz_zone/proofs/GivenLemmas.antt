@@ -1,18 +1,9 @@
 -- The spans that lie at a local second are in force where they read it.
-use Rattle.std.proofs.Common.{◌≡◌, ℕ, ◌≤◌, length, ℤ, sym, subst, arith}
-use Rattle.std.specs.declared.cmp.Ordering.TheVariants.{Equal}
+use Rattle.std.{proofs.Common.{◌≡◌, ℕ, ◌≤◌, length, ℤ, sym, subst, arith}, specs.declared.cmp.Ordering.TheVariants.{Equal}}
 use Rattle.civil_base.specs.Instants.{instant_at, seconds_of}
-use Rattle.tz_zone.specs.Answers.{EachOf, IsUpTo}
-use Rattle.tz_zone.specs.InForce.{IsInForce, AreRead}
-use Rattle.tz_zone.specs.Sets.{schedule_of, shifts_of, IsAccepted, order_of, total_of_span}
-use Rattle.tz_zone.specs.Spans.{IsCut}
-use Rattle.tz_zone.specs.declared.time_zone.OffsetResult.{OffsetResult}
-use Rattle.tz_zone.specs.declared.time_zone.OffsetResult.TheVariants.{Some, Ambiguous, None}
-use Rattle.tz_zone.specs.declared.set.FixedTimespanSet.{FixedTimespanSet}
-use Rattle.tz_zone.proofs.OrderLemmas.{in_order}
-use Rattle.tz_zone.proofs.SetLemmas.{count_same}
-use Rattle.tz_zone.proofs.SpanLemmas.{cut_in}
-use Rattle.tz_zone.specs.SecondLaws.{seconds_of-instant_at}
+use Rattle.tz_zone.specs.{Answers.{EachOf, IsUpTo}, InForce.{IsInForce, AreRead}, Sets.{schedule_of, shifts_of, IsAccepted, order_of, total_of_span}, Spans.{IsCut}, declared.time_zone.OffsetResult.{OffsetResult}}
+use Rattle.tz_zone.specs.{declared.time_zone.OffsetResult.TheVariants.{Some, Ambiguous, None}, declared.set.FixedTimespanSet.{FixedTimespanSet}, SecondLaws.{seconds_of-instant_at}}
+use Rattle.tz_zone.proofs.{OrderLemmas.{in_order}, SetLemmas.{count_same}, SpanLemmas.{cut_in}}
 
 in_force_there : (set : FixedTimespanSet) (k : ℕ) (x s : ℤ) → IsAccepted (schedule_of set) → s ≡ seconds_of x → k ≤ length set.others
     → order_of (schedule_of set) k s ≡ Equal → IsInForce set k (instant_at x (total_of_span set k))

@@ -1,24 +1,14 @@
 -- Gaps, folds, faults, abbreviations and kinds of small sets, at worked rows.
-use Rattle.std.proofs.Common.{◌≡◌, ℕ, zero, suc, ◌+◌, true, false, List, [], ◌∷◌, ℤ, pos, negsuc, refl, ap, ◌∙◌, arith}
-use Rattle.std.specs.Prelude.{Bool, Option, Some, None, Ok, Err, codes, int_lt}
-use Rattle.std.proofs.lemmas.Int.{ints}
+use Rattle.std.{proofs.Common.{◌≡◌, ℕ, zero, suc, ◌+◌, true, false, List, [], ◌∷◌, ℤ, pos, negsuc, refl, ap, ◌∙◌, arith}, specs.Prelude.{Bool, Option, Some, None, Ok, Err, codes, int_lt}, proofs.lemmas.Int.{ints}}
 use Rattle.civil_base.specs.Instants.{seconds_of}
 use Rattle.zone_spans.specs.Schedules.{Schedule, total_at, totals_of, is_in_offset_range}
-use Rattle.tz_zone.specs.declared.set.TzFault.TheVariants.{OffsetRange, Falling, Bound}
-use Rattle.tz_zone.specs.declared.time_zone.OffsetResult.{OffsetResult}
-use Rattle.tz_zone.specs.declared.time_zone.OffsetResult.TheVariants as found
-use Rattle.tz_zone.specs.declared.set.FixedTimespanSet.{FixedTimespanSet}
-use Rattle.tz_zone.specs.Answers.{listed, AreAdjacent, AreMapped, EachOf}
-use Rattle.tz_zone.specs.Compiles.{IsZoneFault}
-use Rattle.tz_zone.specs.declared.compile.ZoneFault.TheVariants as cause
 use Rattle.zone_spans.specs.declared.fault.SpanFault.TheVariants as span_fault
 use Rattle.zone_spans.specs.declared.span.FixedTimespanSet as spans
-use Rattle.tz_zone.specs.Faults.{IsFault}
-use Rattle.tz_zone.specs.InForce.{GivesAt}
-use Rattle.tz_zone.specs.Results.{has_one, only_in, first_in, second_in, is_none_in, is_ambiguous_in}
-use Rattle.tz_zone.specs.Scans.{spans_from}
-use Rattle.tz_zone.specs.Sets.{schedule_of, shifts_of, span_in, IsOrderlyZone, IsSpanTime}
+use Rattle.tz_zone.specs.{declared.set.TzFault.TheVariants.{OffsetRange, Falling, Bound}, declared.time_zone.OffsetResult.{OffsetResult}, declared.set.FixedTimespanSet.{FixedTimespanSet}, Answers.{listed, AreAdjacent, AreMapped, EachOf}}
+use Rattle.tz_zone.specs.{Compiles.{IsZoneFault}, Faults.{IsFault}, InForce.{GivesAt}, Results.{has_one, only_in, first_in, second_in, is_none_in, is_ambiguous_in}, Scans.{spans_from}, Sets.{schedule_of, shifts_of, span_in, IsOrderlyZone, IsSpanTime}}
 use Rattle.tz_zone.specs.Spans.{Shift, IsIn, IsCut}
+use Rattle.tz_zone.specs.declared.time_zone.OffsetResult.TheVariants as found
+use Rattle.tz_zone.specs.declared.compile.ZoneFault.TheVariants as cause
 
 abbrev zone : ℤ → List Shift → Schedule
 zone first shifts = record { first = first; shifts = shifts }

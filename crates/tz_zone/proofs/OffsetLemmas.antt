@@ -1,10 +1,6 @@
 -- Sums that are offsets.
-use Rattle.std.proofs.Common.{◌≡◌, ℤ, pos, negsuc, neg_ℤ, ◌+ℤ◌, int_le, to_z, of_z, w32, w64, SFits, ap, ◌∙◌, arith}
-use Rattle.std.specs.Prelude.{◌&&◌, true}
-use Rattle.std.proofs.lemmas.Bool.Decides.{nat_tests}
-use Rattle.std.proofs.lemmas.Int.{ints, to_z-of_z}
-use Rattle.civil_base.specs.Ranges.{is_offset}
-use Rattle.civil_base.specs.RangeLaws.{offset_least, offset_greatest}
+use Rattle.std.{proofs.Common.{◌≡◌, ℤ, pos, negsuc, neg_ℤ, ◌+ℤ◌, int_le, to_z, of_z, w32, w64, SFits, ap, ◌∙◌, arith}, specs.Prelude.{◌&&◌, true}, proofs.lemmas.Bool.Decides.{nat_tests}, proofs.lemmas.Int.{ints, to_z-of_z}}
+use Rattle.civil_base.specs.{Ranges.{is_offset}, RangeLaws.{offset_least, offset_greatest}}
 
 pub offset_test : (o : ℤ) → (int_le (neg_ℤ (pos 93599)) o && int_le o (pos 93599)) ≡ is_offset o
 offset_test (pos n) = grind (arith, nat_tests, ints)

@@ -1,22 +1,11 @@
 -- The order of spans about a local second, and what the span that is found says of its instants.
-use Rattle.std.proofs.Common.{◌≡◌, ℕ, zero, suc, ◌+◌, ◌<◌, ◌≤◌, Bool, true, false, cond, [], ◌∷◌, length, ℤ, ◌<ℤ◌, refl, sym, ap, ◌∙◌, subst, ⊎_elim, arith}
-use Rattle.std.proofs.lemmas.Bool.{cases_lt}
-use Rattle.std.proofs.lemmas.Int.{ints}
-use Rattle.std.specs.declared.cmp.Ordering.{Ordering}
-use Rattle.std.specs.declared.cmp.Ordering.TheVariants.{Less, Equal, Greater}
+use Rattle.std.proofs.{Common.{◌≡◌, ℕ, zero, suc, ◌+◌, ◌<◌, ◌≤◌, Bool, true, false, cond, [], ◌∷◌, length, ℤ, ◌<ℤ◌, refl, sym, ap, ◌∙◌, subst, ⊎_elim, arith}, lemmas.Bool.{cases_lt}, lemmas.Int.{ints}}
+use Rattle.std.specs.declared.cmp.Ordering.{Ordering, TheVariants.{Less, Equal, Greater}}
 use Rattle.basics.specs.ComparisonLaws.{le_le, lt_le}
-use Rattle.civil_base.specs.Instants.{seconds_of}
-use Rattle.civil_base.specs.RangeLaws.{offset_greatest, offset_least}
-use Rattle.civil_base.specs.Ranges.{IsOffset}
+use Rattle.civil_base.specs.{Instants.{seconds_of}, RangeLaws.{offset_greatest, offset_least}, Ranges.{IsOffset}}
 use Rattle.zone_spans.specs.Schedules.{Schedule, total_at}
-use Rattle.tz_zone.specs.InForce.{totals_at}
-use Rattle.tz_zone.specs.Spans.{local_start, local_end, IsIn, IsOrderly}
-use Rattle.tz_zone.specs.Search.{GoesUp}
-use Rattle.tz_zone.specs.Sets.{IsAccepted, IsNear, has_ended, is_ahead, order_of, schedule_of, shifts_of, total_of_span}
-use Rattle.tz_zone.specs.declared.set.FixedTimespanSet.{FixedTimespanSet}
-use Rattle.tz_zone.proofs.PlaceLemmas.{ended_false, ended_true, not_ended, is_ended, ahead_false, ahead_true, not_ahead, is_before}
-use Rattle.tz_zone.proofs.SetLemmas.{count_same, span_offset}
-use Rattle.tz_zone.proofs.AnswerLemmas.{Holds, total, none_holds, before_holds, alone_holds}
+use Rattle.tz_zone.specs.{InForce.{totals_at}, Spans.{local_start, local_end, IsIn, IsOrderly}, Search.{GoesUp}, Sets.{IsAccepted, IsNear, has_ended, is_ahead, order_of, schedule_of, shifts_of, total_of_span}, declared.set.FixedTimespanSet.{FixedTimespanSet}}
+use Rattle.tz_zone.proofs.{PlaceLemmas.{ended_false, ended_true, not_ended, is_ended, ahead_false, ahead_true, not_ahead, is_before}, SetLemmas.{count_same, span_offset}, AnswerLemmas.{Holds, total, none_holds, before_holds, alone_holds}}
 
 choice : Bool → Bool → Ordering
 choice a b = cond a Less (cond b Greater Equal)

@@ -1,8 +1,5 @@
 -- A test of a place and of a second at once: an entry that has come, and one that is still to come.
-use Rattle.std.proofs.Common.{◌≡◌, ℕ, ◌<◌, true, false, ℤ, ◌≤ℤ◌, ◌<ℤ◌, int_le, int_lt, ltb, arith}
-use Rattle.std.specs.Prelude.{◌&&◌}
-use Rattle.std.proofs.lemmas.Int.{ints}
-use Rattle.std.proofs.lemmas.Bool.Decides.{nat_tests}
+use Rattle.std.{proofs.Common.{◌≡◌, ℕ, ◌<◌, true, false, ℤ, ◌≤ℤ◌, ◌<ℤ◌, int_le, int_lt, ltb, arith}, specs.Prelude.{◌&&◌}, proofs.lemmas.Int.{ints}, proofs.lemmas.Bool.Decides.{nat_tests}}
 
 pub ended_false : (i n : ℕ) (e x : ℤ) → ltb i n && int_le e x ≡ false → i < n → x <ℤ e
 ended_false i n e x h l = grind (arith, nat_tests, ints)

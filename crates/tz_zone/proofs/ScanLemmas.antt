@@ -1,21 +1,10 @@
 -- Looking at each span in turn gives the instants by time, on every zone.
-use Rattle.std.proofs.Common.{◌≡◌, ℕ, zero, suc, ◌+◌, ◌-◌, ◌<◌, ◌≤◌, Bool, true, false, cond, List, [], ◌∷◌, length, map, take, ℤ, ◌<ℤ◌, refl, sym, ap, ◌∙◌, subst, ⊎_elim, arith}
-use Rattle.std.specs.Prelude.{Contains, AllPairs}
-use Rattle.std.specs.Ordering.{is_eq}
-use Rattle.std.proofs.lemmas.Bool.{cases_lt, cases_Bool}
-use Rattle.std.proofs.lemmas.List.{take-map, length-map}
-use Rattle.std.specs.declared.cmp.Ordering.{Ordering}
-use Rattle.std.specs.declared.cmp.Ordering.TheVariants.{Less, Equal, Greater}
+use Rattle.std.proofs.{Common.{◌≡◌, ℕ, zero, suc, ◌+◌, ◌-◌, ◌<◌, ◌≤◌, Bool, true, false, cond, List, [], ◌∷◌, length, map, take, ℤ, ◌<ℤ◌, refl, sym, ap, ◌∙◌, subst, ⊎_elim, arith}, lemmas.Bool.{cases_lt, cases_Bool}, lemmas.List.{take-map, length-map}}
+use Rattle.std.specs.{Prelude.{Contains, AllPairs}, Ordering.{is_eq}, declared.cmp.Ordering.{Ordering}, declared.cmp.Ordering.TheVariants.{Less, Equal, Greater}}
 use Rattle.civil_base.specs.Instants.{seconds_of}
 use Rattle.zone_spans.specs.Schedules.{Schedule, total_at, instants}
-use Rattle.tz_zone.specs.InForce.{totals_at}
-use Rattle.tz_zone.specs.Spans.{IsIn, IsOrderly}
-use Rattle.tz_zone.specs.Sets.{IsAccepted, order_of}
-use Rattle.tz_zone.specs.Scans.{spans_from}
-use Rattle.tz_zone.proofs.SpanLemmas.{total_falls, neighbours}
-use Rattle.tz_zone.specs.RisingLaws.{pairs_more, contains_head, contains_more, cases_more}
-use Rattle.tz_zone.proofs.AnswerLemmas.{Holds, total, span_totals, map_contains, contains_map}
-use Rattle.tz_zone.proofs.OrderLemmas.{in_order, order_in}
+use Rattle.tz_zone.specs.{InForce.{totals_at}, Spans.{IsIn, IsOrderly}, Sets.{IsAccepted, order_of}, Scans.{spans_from}, RisingLaws.{pairs_more, contains_head, contains_more, cases_more}}
+use Rattle.tz_zone.proofs.{SpanLemmas.{total_falls, neighbours}, AnswerLemmas.{Holds, total, span_totals, map_contains, contains_map}, OrderLemmas.{in_order, order_in}}
 
 -- no span is found twice
 pub few_spans : (zone : Schedule) (x : ℤ) (k n : ℕ) → length (spans_from zone x k n) ≤ n

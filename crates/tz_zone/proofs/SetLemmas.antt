@@ -1,20 +1,11 @@
 -- What is read of a set's entries.
-use Rattle.std.proofs.Common.{◌≡◌, ℕ, zero, suc, ◌+◌, ◌-◌, ◌<◌, ◌≤◌, true, List, [], ◌∷◌, length, map, get_or, ℤ, pos, ◌+ℤ◌, ◌≤ℤ◌, refl, sym, ap, ◌∙◌, subst, ⊎_elim, arith}
-use Rattle.std.specs.Prelude.{All, ◌↔◌, ◌&&◌}
-use Rattle.std.specs.List.{list_all}
-use Rattle.std.proofs.lemmas.Bool.{cases_lt, and_parts}
-use Rattle.std.proofs.lemmas.Int.{ints}
-use Rattle.std.proofs.lemmas.List.{get_or-map, length-map}
+use Rattle.std.proofs.{Common.{◌≡◌, ℕ, zero, suc, ◌+◌, ◌-◌, ◌<◌, ◌≤◌, true, List, [], ◌∷◌, length, map, get_or, ℤ, pos, ◌+ℤ◌, ◌≤ℤ◌, refl, sym, ap, ◌∙◌, subst, ⊎_elim, arith}, lemmas.Bool.{cases_lt, and_parts}, lemmas.Int.{ints}}
+use Rattle.std.proofs.{lemmas.List.{get_or-map, length-map}, Common.{w64, to_z, of_z, SFits}, lemmas.Int.{to_z-of_z}}
+use Rattle.std.specs.{Prelude.{All, ◌↔◌, ◌&&◌}, List.{list_all}}
 use Rattle.zone_spans.specs.Entries.{Entry, total}
-use Rattle.civil_base.specs.Ranges.{is_offset}
-use Rattle.tz_zone.specs.declared.set.FixedTimespanSet.{FixedTimespanSet}
-use Rattle.std.proofs.Common.{w64, to_z, of_z, SFits}
-use Rattle.std.proofs.lemmas.Int.{to_z-of_z}
+use Rattle.civil_base.specs.{Ranges.{is_offset}, Ranges.{IsOffset}, RangeLaws.{offset_least, offset_greatest}}
+use Rattle.tz_zone.specs.{declared.set.FixedTimespanSet.{FixedTimespanSet}, Spans.{Shift, shift_at, local_start}, Sets.{shift_of, shifts_of, schedule_of, span_in, total_of_span, IsAccepted, IsSpanTime}}
 use Rattle.basics.specs.ComparisonLaws.{le_le, le_from_eq}
-use Rattle.civil_base.specs.Ranges.{IsOffset}
-use Rattle.civil_base.specs.RangeLaws.{offset_least, offset_greatest}
-use Rattle.tz_zone.specs.Spans.{Shift, shift_at, local_start}
-use Rattle.tz_zone.specs.Sets.{shift_of, shifts_of, schedule_of, span_in, total_of_span, IsAccepted, IsSpanTime}
 
 pub shift_read : (es : List Entry) (k : ℕ) (d : Entry) → k < length es → shift_at (map shift_of es) k ≡ shift_of (get_or es k d)
 shift_read [] k d l = absurd (omega arith)

@@ -1,10 +1,7 @@
 -- Totals by spans.
-use Rattle.std.proofs.Common.{◌≡◌, ℕ, zero, suc, ◌+◌, ◌<◌, ◌≤◌, List, [], ◌∷◌, length, ℤ, ◌+ℤ◌, ◌-ℤ◌, ◌≤ℤ◌, ◌<ℤ◌, sym, ap, ◌∙◌, ⊎_elim, arith}
-use Rattle.std.proofs.lemmas.Int.{ints, by_lt_z}
-use Rattle.std.proofs.lemmas.Bool.{cases_lt}
+use Rattle.std.proofs.{Common.{◌≡◌, ℕ, zero, suc, ◌+◌, ◌<◌, ◌≤◌, List, [], ◌∷◌, length, ℤ, ◌+ℤ◌, ◌-ℤ◌, ◌≤ℤ◌, ◌<ℤ◌, sym, ap, ◌∙◌, ⊎_elim, arith}, lemmas.Int.{ints, by_lt_z}, lemmas.Bool.{cases_lt}}
 use Rattle.basics.specs.ComparisonLaws.{lt_le, le_le}
-use Rattle.tz_zone.specs.SpanLaws.{total_from_cut}
-use Rattle.tz_zone.specs.Spans.{total_from, Shift, shift_at, total_of, IsIn, TimesDontFall, IsOrderly, IsCut}
+use Rattle.tz_zone.specs.{SpanLaws.{total_from_cut}, Spans.{total_from, Shift, shift_at, total_of, IsIn, TimesDontFall, IsOrderly, IsCut}}
 
 pub times_tail : (s : Shift) (ss : List Shift) → TimesDontFall (s ∷ ss) → TimesDontFall ss
 times_tail s ss h i j le l = h (suc i) (suc j) (omega arith) (omega arith)

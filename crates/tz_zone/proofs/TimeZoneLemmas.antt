@@ -1,20 +1,9 @@
 -- What a zone's answers say of instants.
-use Rattle.std.proofs.Common.{◌≡◌, zero, suc, ◌≤◌, List, [], ◌∷◌, length, map, take, ℤ, pos, ◌+ℤ◌, ◌*ℤ◌, refl, sym, ap, ◌∙◌, subst, arith}
-use Rattle.std.specs.Prelude.{Contains}
-use Rattle.std.proofs.lemmas.List.{take-map}
-use Rattle.std.proofs.lemmas.Int.{ints}
-use Rattle.civil_base.specs.DateTimes.{at_offset}
-use Rattle.civil_base.specs.Ranges.{IsOffset}
+use Rattle.std.{proofs.Common.{◌≡◌, zero, suc, ◌≤◌, List, [], ◌∷◌, length, map, take, ℤ, pos, ◌+ℤ◌, ◌*ℤ◌, refl, sym, ap, ◌∙◌, subst, arith}, specs.Prelude.{Contains}, proofs.lemmas.List.{take-map}, proofs.lemmas.Int.{ints}}
+use Rattle.civil_base.specs.{DateTimes.{at_offset}, Ranges.{IsOffset}, Instants.{instant_at}, declared.offset_date_time.OffsetDateTime.{OffsetDateTime}}
 use Rattle.zone_spans.specs.Schedules.{instants}
-use Rattle.civil_base.specs.Instants.{instant_at}
-use Rattle.civil_base.specs.declared.offset_date_time.OffsetDateTime.{OffsetDateTime}
-use Rattle.tz_zone.specs.Answers.{AreMapped, listed}
-use Rattle.tz_zone.specs.InForce.{in_force, all_in_force, totals_at, shown_of}
-use Rattle.tz_zone.specs.InForceLaws.{shown_at_offset}
-use Rattle.tz_zone.specs.RisingLaws.{contains_head, contains_more}
-use Rattle.tz_zone.specs.InstantLaws.{from_reading, instants_are, instants_one}
-use Rattle.tz_zone.specs.declared.time_zone.OffsetResult.TheVariants.{Some, Ambiguous, None}
-use Rattle.tz_zone.specs.declared.time_zone.OffsetResult.{OffsetResult}
+use Rattle.tz_zone.specs.{Answers.{AreMapped, listed}, InForce.{in_force, all_in_force, totals_at, shown_of}, InForceLaws.{shown_at_offset}, RisingLaws.{contains_head, contains_more}, InstantLaws.{from_reading, instants_are, instants_one}}
+use Rattle.tz_zone.specs.declared.time_zone.OffsetResult.{TheVariants.{Some, Ambiguous, None}, OffsetResult}
 
 -- one total at all times
 reads_fixed : (x t o : ℤ) → instant_at x o ≡ t → (t +ℤ pos 1000000000 *ℤ o) ≡ x

@@ -1,15 +1,8 @@
 -- What an answer says of the instants of a local time.
-use Rattle.std.proofs.Common.{◌≡◌, ◌≤◌, List, [], ◌∷◌, length, map, take, ℤ, refl, sym, ap, ◌∙◌, subst, arith}
-use Rattle.std.specs.Prelude.{Contains}
-use Rattle.std.proofs.lemmas.List.{take-map, take_all, length-map}
-use Rattle.civil_base.specs.DateTimes.{instant}
-use Rattle.civil_base.specs.Instants.{instant_at}
-use Rattle.civil_base.specs.Ranges.{IsOffset}
-use Rattle.civil_base.specs.declared.offset_date_time.OffsetDateTime.{OffsetDateTime}
+use Rattle.std.{proofs.Common.{◌≡◌, ◌≤◌, List, [], ◌∷◌, length, map, take, ℤ, refl, sym, ap, ◌∙◌, subst, arith}, specs.Prelude.{Contains}, proofs.lemmas.List.{take-map, take_all, length-map}}
+use Rattle.civil_base.specs.{DateTimes.{instant}, Instants.{instant_at}, Ranges.{IsOffset}, declared.offset_date_time.OffsetDateTime.{OffsetDateTime}}
 use Rattle.zone_spans.specs.Schedules.{instants}
-use Rattle.tz_zone.specs.InForce.{in_force, all_in_force, shown_of, totals_at, AreInstants}
-use Rattle.tz_zone.specs.InstantLaws.{from_reading, instants_are}
-use Rattle.tz_zone.specs.RisingLaws.{contains_head, contains_more}
+use Rattle.tz_zone.specs.{InForce.{in_force, all_in_force, shown_of, totals_at, AreInstants}, InstantLaws.{from_reading, instants_are}, RisingLaws.{contains_head, contains_more}}
 
 back_all : (total : ℤ → ℤ) (x : ℤ) (ts : List ℤ) → ((t : ℤ) → Contains ts t → t ≡ instant_at x (total t))
     → map (instant_at x) (map total ts) ≡ ts

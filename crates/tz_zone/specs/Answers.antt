@@ -1,7 +1,6 @@
 -- The values of an answer, in order.
 use Rattle.std.specs.Prelude.{◌≡◌, ℕ, ◌+◌, ◌≤◌, List, [], ◌∷◌}
-use Rattle.tz_zone.specs.declared.time_zone.OffsetResult.{OffsetResult}
-use Rattle.tz_zone.specs.declared.time_zone.OffsetResult.TheVariants.{Some, Ambiguous, None}
+use Rattle.tz_zone.specs.declared.time_zone.OffsetResult.{OffsetResult, TheVariants.{Some, Ambiguous, None}}
 
 abbrev pub listed : {T : Type 0} → OffsetResult T → List T
 listed (Some a) = a ∷ []

@@ -1,11 +1,8 @@
 -- The schedule of what was compiled.
-use Rattle.std.specs.Prelude.{◌≡◌, map}
-use Rattle.std.proofs.Common.{sym}
-use Rattle.zone_spans.specs.Entries.{total}
-use Rattle.zone_spans.specs.Schedules.{totals_of}
+use Rattle.std.{specs.Prelude.{◌≡◌, map}, proofs.Common.{sym}}
+use Rattle.zone_spans.specs.{Entries.{total}, Schedules.{totals_of}}
 use Rattle.zone_spans.specs.declared.span.FixedTimespanSet as spans
-use Rattle.tz_zone.specs.Sets.{shift_of, schedule_of}
-use Rattle.tz_zone.specs.declared.set.FixedTimespanSet.{FixedTimespanSet}
+use Rattle.tz_zone.specs.{Sets.{shift_of, schedule_of}, declared.set.FixedTimespanSet.{FixedTimespanSet}}
 
 -- a set with the spans that were compiled has their totals
 pub totals_same : (set : FixedTimespanSet) (compiled : spans.FixedTimespanSet) → set.first ≡ compiled.first → set.others ≡ compiled.rest

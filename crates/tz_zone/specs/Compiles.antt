@@ -1,17 +1,10 @@
 -- What is compiled under a name.
-use Rattle.std.specs.Prelude.{◌≡◌, ◌≢◌, ℕ, List, option_map, false, Option, Some, None, Result, Ok, Err}
-use Rattle.std.specs.FinMap.{get}
-use Rattle.zone_spans.specs.Compiled.{compiled_over}
-use Rattle.zone_spans.specs.Schedules.{is_in_offset_range, totals_of}
-use Rattle.zone_spans.specs.Years.{most_years}
-use Rattle.zone_spans.specs.declared.fault.SpanFault.{SpanFault}
+use Rattle.std.specs.{Prelude.{◌≡◌, ◌≢◌, ℕ, List, option_map, false, Option, Some, None, Result, Ok, Err}, FinMap.{get}}
+use Rattle.zone_spans.specs.{Compiled.{compiled_over}, Schedules.{is_in_offset_range, totals_of}, Years.{most_years}, declared.fault.SpanFault.{SpanFault}}
 use Rattle.zone_spans.specs.declared.fault.SpanFault.TheVariants as span_fault
 use Rattle.zone_spans.specs.declared.span.FixedTimespanSet as spans
-use Rattle.zone_table.specs.Resolved.{resolved_in}
-use Rattle.zone_table.specs.declared.table.Table.{Table}
-use Rattle.tz_zone.specs.declared.compile.ZoneFault.{ZoneFault}
-use Rattle.tz_zone.specs.declared.compile.ZoneFault.TheVariants.{UnknownZone, Schedule, OffsetRange, NoMemory}
-use Rattle.tz_zone.specs.declared.set.FixedTimespanSet.{FixedTimespanSet}
+use Rattle.zone_table.specs.{Resolved.{resolved_in}, declared.table.Table.{Table}}
+use Rattle.tz_zone.specs.declared.{compile.ZoneFault.{ZoneFault}, compile.ZoneFault.TheVariants.{UnknownZone, Schedule, OffsetRange, NoMemory}, set.FixedTimespanSet.{FixedTimespanSet}}
 
 -- what a name finds in a table: nothing, or its zone's spans over so many years or why it has none
 abbrev pub compiled_in_over : ℕ → Table → List ℕ → Option (Result spans.FixedTimespanSet SpanFault)

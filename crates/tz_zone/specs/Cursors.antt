@@ -1,12 +1,7 @@
 -- What is still to give of the date-times of a local time, in a set of spans.
 use Rattle.std.specs.Prelude.{List}
 use Rattle.civil_base.specs.declared.offset_date_time.OffsetDateTime.{OffsetDateTime}
-use Rattle.tz_zone.specs.Answers.{listed}
-use Rattle.tz_zone.specs.Dates.{dates_from}
-use Rattle.tz_zone.specs.declared.time_zone.SpanCursor.{SpanCursor}
-use Rattle.tz_zone.specs.declared.time_zone.SpanCursor.TheVariants.{Found, Sought}
-use Rattle.tz_zone.specs.declared.time_zone.SpanScan.{SpanScan}
-use Rattle.tz_zone.specs.declared.set.FixedTimespanSet.{FixedTimespanSet}
+use Rattle.tz_zone.specs.{Answers.{listed}, Dates.{dates_from}, declared.time_zone.SpanCursor.{SpanCursor}, declared.time_zone.SpanCursor.TheVariants.{Found, Sought}, declared.time_zone.SpanScan.{SpanScan}, declared.set.FixedTimespanSet.{FixedTimespanSet}}
 
 -- those at the spans that contain the local second, from the next one on
 abbrev pub dates_to_scan : FixedTimespanSet → SpanScan → List OffsetDateTime

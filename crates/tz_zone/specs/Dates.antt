@@ -1,10 +1,7 @@
 -- The date-times of the spans that contain a local second.
 use Rattle.std.specs.Prelude.{ℕ, ℤ, ◌+◌, ◌-◌, List, map, length}
-use Rattle.civil_base.specs.DateTimes.{at_offset}
-use Rattle.civil_base.specs.declared.offset_date_time.OffsetDateTime.{OffsetDateTime}
-use Rattle.tz_zone.specs.Scans.{spans_from}
-use Rattle.tz_zone.specs.Sets.{schedule_of, total_of_span}
-use Rattle.tz_zone.specs.declared.set.FixedTimespanSet.{FixedTimespanSet}
+use Rattle.civil_base.specs.{DateTimes.{at_offset}, declared.offset_date_time.OffsetDateTime.{OffsetDateTime}}
+use Rattle.tz_zone.specs.{Scans.{spans_from}, Sets.{schedule_of, total_of_span}, declared.set.FixedTimespanSet.{FixedTimespanSet}}
 
 -- a local time at the total of each, from a span on
 abbrev pub dates_from : FixedTimespanSet → ℤ → ℤ → ℕ → List OffsetDateTime

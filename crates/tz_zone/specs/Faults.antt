@@ -1,10 +1,7 @@
 -- Why a set can't be looked up.
 use Rattle.std.specs.Prelude.{IsTrue}
 use Rattle.zone_spans.specs.Schedules.{Schedule, is_in_offset_range}
-use Rattle.tz_zone.specs.declared.set.TzFault.{TzFault}
-use Rattle.tz_zone.specs.declared.set.TzFault.TheVariants.{OffsetRange, Falling, Bound}
-use Rattle.tz_zone.specs.Spans.{TimesDontFall}
-use Rattle.tz_zone.specs.Sets.{AreSpanTimes}
+use Rattle.tz_zone.specs.{declared.set.TzFault.{TzFault}, declared.set.TzFault.TheVariants.{OffsetRange, Falling, Bound}, Spans.{TimesDontFall}, Sets.{AreSpanTimes}}
 
 -- this is the first fault
 abbrev pub IsFault : Schedule → TzFault → Type 0

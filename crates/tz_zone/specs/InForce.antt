@@ -1,14 +1,8 @@
 -- Instants and the offsets in force at them, as a zone gives a total for each instant.
 use Rattle.std.specs.Prelude.{ℕ, Bool, int_lt, ◌≡◌, ◌↔◌, List, map, Contains, AllPairs, ℤ, pos, ◌+ℤ◌, ◌*ℤ◌, ◌<ℤ◌}
-use Rattle.civil_base.specs.DateTimes.{instant, offset_of}
-use Rattle.civil_base.specs.Instants.{instant_at, seconds_of}
-use Rattle.civil_base.specs.declared.offset_date_time.OffsetDateTime.{OffsetDateTime}
+use Rattle.civil_base.specs.{DateTimes.{instant, offset_of}, Instants.{instant_at, seconds_of}, declared.offset_date_time.OffsetDateTime.{OffsetDateTime}}
 use Rattle.zone_spans.specs.Schedules.{instants}
-use Rattle.tz_zone.specs.Answers.{EachOf}
-use Rattle.tz_zone.specs.Sets.{shifts_of, span_in, total_of_span}
-use Rattle.tz_zone.specs.Spans.{IsCut}
-use Rattle.tz_zone.specs.declared.time_zone.OffsetResult.{OffsetResult}
-use Rattle.tz_zone.specs.declared.set.FixedTimespanSet.{FixedTimespanSet}
+use Rattle.tz_zone.specs.{Answers.{EachOf}, Sets.{shifts_of, span_in, total_of_span}, Spans.{IsCut}, declared.time_zone.OffsetResult.{OffsetResult}, declared.set.FixedTimespanSet.{FixedTimespanSet}}
 
 -- an instant, and the total in force at it
 abbrev pub in_force : (ℤ → ℤ) → ℤ → ℤ × ℤ

@@ -1,12 +1,8 @@
 -- What a span that is in force gives, and a local time at an offset.
-use Rattle.std.specs.Prelude.{◌≡◌, ℕ, ℤ, pos, int_lt}
-use Rattle.std.proofs.Common.{ap}
-use Rattle.civil_base.specs.DateTimes.{at_offset, instant-at_offset, offset_of-at_offset}
-use Rattle.civil_base.specs.Instants.{instant_at}
+use Rattle.std.{specs.Prelude.{◌≡◌, ℕ, ℤ, pos, int_lt}, proofs.Common.{ap}}
+use Rattle.civil_base.specs.{DateTimes.{at_offset, instant-at_offset, offset_of-at_offset}, Instants.{instant_at}}
 use Rattle.zone_spans.specs.declared.span.FixedTimespan.{FixedTimespan}
-use Rattle.tz_zone.specs.InForce.{GivesAt, IsInForce, shown_of}
-use Rattle.tz_zone.specs.Sets.{span_in}
-use Rattle.tz_zone.specs.declared.set.FixedTimespanSet.{FixedTimespanSet}
+use Rattle.tz_zone.specs.{InForce.{GivesAt, IsInForce, shown_of}, Sets.{span_in}, declared.set.FixedTimespanSet.{FixedTimespanSet}}
 
 -- its abbreviation and its kind are what the set gives at the instant
 pub gives_at : (set : FixedTimespanSet) (k : ℕ) (t : ℤ) (span : FixedTimespan) → IsInForce set k t → span ≡ span_in set k

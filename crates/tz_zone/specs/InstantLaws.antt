@@ -1,18 +1,10 @@
 -- The instants of a local time are one rising list.
-use Rattle.std.proofs.Common.{◌≡◌, ℕ, zero, suc, ◌≤◌, Bool, true, false, cond, List, [], ◌∷◌, length, map, ℤ, pos, ◌+ℤ◌, ◌-ℤ◌, ◌*ℤ◌, ◌≤ℤ◌, ◌<ℤ◌, refl, sym, ap, ◌∙◌, subst, ⊎_elim, arith}
-use Rattle.std.specs.Prelude.{Contains}
-use Rattle.std.specs.Ordering.{int_eq}
-use Rattle.std.specs.List.{filter}
-use Rattle.std.proofs.lemmas.Bool.{cases_Bool}
-use Rattle.std.proofs.lemmas.Int.{ints}
-use Rattle.std.proofs.lemmas.List.{length-map}
+use Rattle.std.proofs.{Common.{◌≡◌, ℕ, zero, suc, ◌≤◌, Bool, true, false, cond, List, [], ◌∷◌, length, map, ℤ, pos, ◌+ℤ◌, ◌-ℤ◌, ◌*ℤ◌, ◌≤ℤ◌, ◌<ℤ◌, refl, sym, ap, ◌∙◌, subst, ⊎_elim, arith}, lemmas.Bool.{cases_Bool}, lemmas.Int.{ints}, lemmas.List.{length-map}}
+use Rattle.std.specs.{Prelude.{Contains}, Ordering.{int_eq}, List.{filter}}
 use Rattle.basics.specs.ComparisonLaws.{eq_from_pass, eq_pass, lt_le, le_from_eq}
-use Rattle.civil_base.specs.Ranges.{IsOffset, greatest_offset}
-use Rattle.civil_base.specs.RangeLaws.{offset_least, offset_greatest}
+use Rattle.civil_base.specs.{Ranges.{IsOffset, greatest_offset}, RangeLaws.{offset_least, offset_greatest}, Instants.{instant_at}}
 use Rattle.zone_spans.specs.Schedules.{down_from, offset_count, offsets, instants}
-use Rattle.civil_base.specs.Instants.{instant_at}
-use Rattle.tz_zone.specs.InForce.{all_in_force, in_force, AreInstants}
-use Rattle.tz_zone.specs.RisingLaws.{Rises, same_rising, pairs_more, contains_head, contains_more, cases_more}
+use Rattle.tz_zone.specs.{InForce.{all_in_force, in_force, AreInstants}, RisingLaws.{Rises, same_rising, pairs_more, contains_head, contains_more, cases_more}}
 
 abbrev reads : (ℤ → ℤ) → ℤ → ℤ → Bool
 reads total x o = int_eq (total (instant_at x o)) o

@@ -1,8 +1,7 @@
 -- The values that an answer has.
 use Rattle.std.specs.Prelude.{Bool, true, false, Option}
 use Rattle.std.specs.Prelude as option
-use Rattle.tz_zone.specs.declared.time_zone.OffsetResult.{OffsetResult}
-use Rattle.tz_zone.specs.declared.time_zone.OffsetResult.TheVariants.{Some, Ambiguous, None}
+use Rattle.tz_zone.specs.declared.time_zone.OffsetResult.{OffsetResult, TheVariants.{Some, Ambiguous, None}}
 
 abbrev pub has_one : {T : Type 0} → OffsetResult T → Bool
 has_one (Some a) = true

@@ -1,6 +1,5 @@
 -- The spans that contain a local second, by looking at each.
-use Rattle.std.specs.Prelude.{Option, Some, None, ℕ, zero, suc, List, [], ◌∷◌, ℤ, if◌then◌else◌}
-use Rattle.std.specs.Ordering.{is_eq}
+use Rattle.std.specs.{Prelude.{Option, Some, None, ℕ, zero, suc, List, [], ◌∷◌, ℤ, if◌then◌else◌}, Ordering.{is_eq}}
 use Rattle.zone_spans.specs.Schedules.{Schedule}
 use Rattle.tz_zone.specs.Sets.{order_of}
 

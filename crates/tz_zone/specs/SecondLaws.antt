@@ -1,6 +1,5 @@
 -- The whole second of an instant, and the total in force at an instant as that at its second.
-use Rattle.std.proofs.Common.{◌≡◌, Bool, true, false, filter, ℤ, pos, negsuc, ◌+ℤ◌, ◌-ℤ◌, ◌*ℤ◌, ◌≤ℤ◌, ◌<ℤ◌, int_le, refl, arith}
-use Rattle.std.proofs.lemmas.Int.{ints}
+use Rattle.std.proofs.{Common.{◌≡◌, Bool, true, false, filter, ℤ, pos, negsuc, ◌+ℤ◌, ◌-ℤ◌, ◌*ℤ◌, ◌≤ℤ◌, ◌<ℤ◌, int_le, refl, arith}, lemmas.Int.{ints}}
 use Rattle.basics.specs.ComparisonLaws.{le_pass, le_fail, le_from_pass, le_from_fail}
 use Rattle.civil_base.specs.Instants.{instant_at, seconds_of}
 use Rattle.zone_spans.specs.Schedules.{Schedule, last_total, total_at}

@@ -1,14 +1,9 @@
 -- What a set of spans stands for, and which sets can be looked up.
-use Rattle.std.specs.Prelude.{ℕ, zero, suc, slice_index_or, ◌+◌, ◌<◌, ◌≤◌, ◌<ℤ◌, Bool, ◌&&◌, nat_lt, List, length, map, All, IsTrue, ℤ, pos, neg_ℤ, ◌+ℤ◌, ◌≤ℤ◌, int_le, int_lt, if◌then◌else◌}
-use Rattle.std.specs.declared.cmp.Ordering.{Ordering}
+use Rattle.std.specs.{Prelude.{ℕ, zero, suc, slice_index_or, ◌+◌, ◌<◌, ◌≤◌, ◌<ℤ◌, Bool, ◌&&◌, nat_lt, List, length, map, All, IsTrue, ℤ, pos, neg_ℤ, ◌+ℤ◌, ◌≤ℤ◌, int_le, int_lt, if◌then◌else◌}, declared.cmp.Ordering.{Ordering}}
 use Rattle.std.specs.declared.cmp.Ordering.TheVariants.{Less, Equal, Greater}
 use Rattle.civil_base.specs.Ranges.{greatest_offset}
-use Rattle.zone_spans.specs.Bounds.{greatest_second}
-use Rattle.zone_spans.specs.Entries.{Entry, total}
-use Rattle.zone_spans.specs.Schedules.{Schedule, is_in_offset_range}
-use Rattle.zone_spans.specs.declared.span.FixedTimespan.{FixedTimespan}
-use Rattle.tz_zone.specs.declared.set.FixedTimespanSet.{FixedTimespanSet}
-use Rattle.tz_zone.specs.Spans.{Shift, shift_at, total_of, local_start, local_end, TimesDontFall, IsOrderly}
+use Rattle.zone_spans.specs.{Bounds.{greatest_second}, Entries.{Entry, total}, Schedules.{Schedule, is_in_offset_range}, declared.span.FixedTimespan.{FixedTimespan}}
+use Rattle.tz_zone.specs.{declared.set.FixedTimespanSet.{FixedTimespanSet}, Spans.{Shift, shift_at, total_of, local_start, local_end, TimesDontFall, IsOrderly}}
 
 -- an entry's second and total
 abbrev pub shift_of : Entry → Shift

@@ -1,9 +1,6 @@
 -- Date-times at UTC: the instant and its second are those of the local time.
-use Rattle.std.proofs.Common.{◌≡◌, ℤ, pos, ◌-ℤ◌, ◌*ℤ◌, ap, ◌∙◌, arith}
-use Rattle.std.proofs.lemmas.Int.{ints}
-use Rattle.civil_base.specs.DateTimes.{instant, local_of, offset_of}
-use Rattle.civil_base.specs.Instants.{seconds_of}
-use Rattle.civil_base.specs.declared.offset_date_time.OffsetDateTime.{OffsetDateTime}
+use Rattle.std.proofs.{Common.{◌≡◌, ℤ, pos, ◌-ℤ◌, ◌*ℤ◌, ap, ◌∙◌, arith}, lemmas.Int.{ints}}
+use Rattle.civil_base.specs.{DateTimes.{instant, local_of, offset_of}, Instants.{seconds_of}, declared.offset_date_time.OffsetDateTime.{OffsetDateTime}}
 
 no_offset : (x o : ℤ) → o ≡ pos 0 → x -ℤ pos 1000000000 *ℤ o ≡ x
 no_offset x o e = omega (arith, ints, e)

@@ -2,10 +2,7 @@
 use Rattle.std.specs.Prelude.{ℤ, pos, int_lt}
 use Rattle.civil_base.specs.Instants.{instant_at}
 use Rattle.zone_spans.specs.declared.span.FixedTimespan.{FixedTimespan}
-use Rattle.tz_zone.specs.InForce.{GivesAt}
-use Rattle.tz_zone.specs.declared.set.FixedTimespanSet.{FixedTimespanSet}
-use Rattle.tz_zone.specs.declared.tz.Tz.{Tz}
-use Rattle.tz_zone.specs.declared.tz.TzOffset.{TzOffset}
+use Rattle.tz_zone.specs.{InForce.{GivesAt}, declared.set.FixedTimespanSet.{FixedTimespanSet}, declared.tz.Tz.{Tz}, declared.tz.TzOffset.{TzOffset}}
 
 -- the set of a zone
 abbrev pub set_of : Tz → FixedTimespanSet

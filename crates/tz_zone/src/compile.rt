@@ -2,8 +2,7 @@
 ghost use Rattle.std.specs.Prelude.{◌≡◌, ◌≤◌, IfOk, IfErr, Some, Ok};
 ghost use Rattle.zone_spans.specs.Years.{years_limit};
 ghost use Rattle.zone_table.specs.BoundedTables.{IsBoundedTable};
-ghost use Rattle.tz_zone.specs.Compiles.{compiled_in, compiled_in_over, IsCompiledAs, IsZoneFault};
-ghost use Rattle.tz_zone.specs.Sets.{schedule_of, IsAccepted};
+ghost use Rattle.tz_zone.specs.{Compiles.{compiled_in, compiled_in_over, IsCompiledAs, IsZoneFault}, Sets.{schedule_of, IsAccepted}};
 
 use crate::set::{FixedTimespanSet, has_offsets};
 use std::alloc::{AllocError, Global};

@@ -22,9 +22,7 @@ impl<'a, S: SpanTable> InstantsIn<'a, S> {
     ghost use Rattle.std.specs.Prelude.{◌≡◌, ◌≤◌, ◌+◌, map, length};
     ghost use Rattle.zone_spans.specs.Schedules.{total_at};
     ghost use Rattle.civil_base.specs.DateTimes.{instant};
-    ghost use Rattle.tz_zone.specs.InForce.{all_in_force, shown_of, AreInstants};
-    ghost use Rattle.tz_zone.specs.InstantsLeft.{dates_left};
-    ghost use Rattle.tz_zone.specs.Sets.{schedule_of, IsAccepted};
+    ghost use Rattle.tz_zone.specs.{InForce.{all_in_force, shown_of, AreInstants}, InstantsLeft.{dates_left}, Sets.{schedule_of, IsAccepted}};
 
     /// The instants that the set reads as that local time.
     pub fn new(set: &'a S, local: &PlainDateTime) -> InstantsIn<'a, S>

@@ -1,17 +1,9 @@
 //! The look-ups of an instant and of a local time in anything that gives spans by number, with a step for each comparison or with none.
-ghost use Rattle.std.specs.Prelude.{◌≡◌, ◌+◌, ◌+ℤ◌, ◌<◌, ◌≤◌, ◌↔◌, length, IsTrue, ℕ, ◌-◌, ◌∷◌, [], take, MatchOption, IfSome, ℤ, ◌*◌, ◌^◌, map, pos};
-ghost use Rattle.std.specs.declared.cmp.Ordering.TheVariants.{Equal};
-ghost use Rattle.zone_spans.specs.Entries.{total as total_in};
-ghost use Rattle.civil_base.specs.Ranges.{is_offset};
-ghost use Rattle.tz_zone.specs.Sets.{schedule_of, shifts_of, IsAccepted, has_ended, is_ahead, order_of, total_of_span, span_in, IsBetween, IsNear, order_at, IsOrderlyZone};
-ghost use Rattle.tz_zone.specs.Spans.{local_start, local_end, shift_at, IsCut};
-ghost use Rattle.tz_zone.specs.declared.set.FixedTimespanSet.{FixedTimespanSet};
-ghost use Rattle.tz_zone.specs.Answers.{listed, EachOf, IsUpTo, AreAdjacent};
-ghost use Rattle.tz_zone.specs.Scans.{spans_from};
-ghost use Rattle.civil_base.specs.Instants.{seconds_of};
-ghost use Rattle.zone_spans.specs.Schedules.{total_at};
-ghost use Rattle.tz_zone.specs.InForce.{totals_at, IsInForce, AreRead};
-ghost use Rattle.civil_base.specs.DateTimes.{instant, local_of, offset_of};
+ghost use Rattle.std.specs.{Prelude.{◌≡◌, ◌+◌, ◌+ℤ◌, ◌<◌, ◌≤◌, ◌↔◌, length, IsTrue, ℕ, ◌-◌, ◌∷◌, [], take, MatchOption, IfSome, ℤ, ◌*◌, ◌^◌, map, pos}, declared.cmp.Ordering.TheVariants.{Equal}};
+ghost use Rattle.zone_spans.specs.{Entries.{total as total_in}, Schedules.{total_at}};
+ghost use Rattle.civil_base.specs.{Ranges.{is_offset}, Instants.{seconds_of}, DateTimes.{instant, local_of, offset_of}};
+ghost use Rattle.tz_zone.specs.{Sets.{schedule_of, shifts_of, IsAccepted, has_ended, is_ahead, order_of, total_of_span, span_in, IsBetween, IsNear, order_at, IsOrderlyZone}, Spans.{local_start, local_end, shift_at, IsCut}};
+ghost use Rattle.tz_zone.specs.{declared.set.FixedTimespanSet.{FixedTimespanSet}, Answers.{listed, EachOf, IsUpTo, AreAdjacent}, Scans.{spans_from}, InForce.{totals_at, IsInForce, AreRead}};
 
 use crate::search::{Probe, Steps, binary_search};
 use crate::time_zone::OffsetResult;

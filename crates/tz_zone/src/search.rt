@@ -1,7 +1,5 @@
 //! A search by halves over indices whose order is known by asking, and the steps that it counts.
-ghost use Rattle.std.specs.Prelude.{◌≡◌, ◌≢◌, ℕ, ◌+◌, ◌-◌, ◌*◌, ◌^◌, ◌<◌, ◌≤◌, MatchOption};
-ghost use Rattle.std.specs.declared.cmp.Ordering.{Ordering};
-ghost use Rattle.std.specs.declared.cmp.Ordering.TheVariants.{Equal};
+ghost use Rattle.std.specs.{Prelude.{◌≡◌, ◌≢◌, ℕ, ◌+◌, ◌-◌, ◌*◌, ◌^◌, ◌<◌, ◌≤◌, MatchOption}, declared.cmp.Ordering.{Ordering}, declared.cmp.Ordering.TheVariants.{Equal}};
 ghost use Rattle.tz_zone.specs.Search.{GoesUp};
 
 use std::cmp::Ordering;

@@ -1,16 +1,12 @@
 //! A zone's spans under its name: whether a list of them is accepted as one, and whether it is orderly.
-ghost use Rattle.std.specs.Prelude.{◌≡◌, ◌+◌, ◌≤◌, length, string_bytes, ◌↔◌, IsTrue, All, MatchResult, ◌≤ℤ◌};
-ghost use Rattle.tz_zone.specs.Sets.{span_in, schedule_of, shifts_of, IsAccepted, IsSpanTime, IsOrderlyZone};
-ghost use Rattle.std.specs.List.{list_all};
-ghost use Rattle.zone_spans.specs.Entries.{total};
-ghost use Rattle.zone_spans.specs.Schedules.{is_in_offset_range};
+ghost use Rattle.std.specs.{Prelude.{◌≡◌, ◌+◌, ◌≤◌, length, string_bytes, ◌↔◌, IsTrue, All, MatchResult, ◌≤ℤ◌}, List.{list_all}};
+ghost use Rattle.tz_zone.specs.{Sets.{span_in, schedule_of, shifts_of, IsAccepted, IsSpanTime, IsOrderlyZone}, Faults.{IsFault}, Spans.{TimesDontFall}};
+ghost use Rattle.zone_spans.specs.{Entries.{total}, Schedules.{is_in_offset_range}};
 ghost use Rattle.civil_base.specs.Ranges.{is_offset};
-ghost use Rattle.tz_zone.specs.Faults.{IsFault};
-ghost use Rattle.tz_zone.specs.Spans.{TimesDontFall};
 
 use crate::lookups::{SpanTable, end_of, start_of};
-use civil_base::GREATEST_OFFSET;
 use basics::{Items, Text};
+use civil_base::GREATEST_OFFSET;
 use zone_spans::{FixedTimespan, GREATEST_SECOND};
 
 /// The spans of a zone: what is in force before the first entry, and what from each entry on. Span 0 is the first one.

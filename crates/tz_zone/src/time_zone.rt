@@ -1,16 +1,8 @@
 //! Time zones and offsets of every kind, what they answer, all instants of a local time, and what dates gain by them.
-ghost use Rattle.std.specs.Prelude.{◌≡◌, ℕ, ℤ, pos, Bool, List, ◌≤◌, map, take, length, ◌+◌, is_some, IfSome};
-ghost use Rattle.civil_base.specs.DateTimes.{instant, local_of, offset_of};
-ghost use Rattle.civil_base.specs.Instants.{instant_at, seconds_of, local_at};
-ghost use Rattle.civil_base.specs.Ranges.{IsOffset, is_in_years};
+ghost use Rattle.std.specs.{Prelude.{◌≡◌, ℕ, ℤ, pos, Bool, List, ◌≤◌, map, take, length, ◌+◌, is_some, IfSome}, Iterator.{YieldsFirst}};
+ghost use Rattle.civil_base.specs.{DateTimes.{instant, local_of, offset_of}, Instants.{instant_at, seconds_of, local_at}, Ranges.{IsOffset, is_in_years}, declared.offset_date_time.OffsetDateTime.{OffsetDateTime as DateTime}};
 ghost use Rattle.zone_spans.specs.Schedules.{instants, total_at};
-ghost use Rattle.tz_zone.specs.Answers.{listed, EachOf};
-ghost use Rattle.tz_zone.specs.InForce.{totals_at, AreInstants, all_in_force, shown_of, in_force};
-ghost use Rattle.std.specs.Iterator.{YieldsFirst};
-ghost use Rattle.civil_base.specs.declared.offset_date_time.OffsetDateTime.{OffsetDateTime as DateTime};
-ghost use Rattle.tz_zone.specs.Dates.{dates_from};
-ghost use Rattle.tz_zone.specs.Sets.{schedule_of, IsAccepted};
-ghost use Rattle.tz_zone.specs.declared.set.FixedTimespanSet.{FixedTimespanSet as Spans};
+ghost use Rattle.tz_zone.specs.{Answers.{listed, EachOf}, InForce.{totals_at, AreInstants, all_in_force, shown_of, in_force}, Dates.{dates_from}, Sets.{schedule_of, IsAccepted}, declared.set.FixedTimespanSet.{FixedTimespanSet as Spans}};
 
 use crate::lookups::{SpanTable, next_span, offset_of};
 use civil_base::{OffsetDateTime, PlainDateTime, UtcOffset};
@@ -108,11 +100,8 @@ pub enum OffsetResult<T> {
 }
 
 impl<T: Drop> OffsetResult<T> {
-    ghost use Rattle.tz_zone.specs.Answers.{AreMapped, EachOf};
-    ghost use Rattle.tz_zone.specs.Results.{has_one, first_in, second_in, only_in, is_none_in, is_ambiguous_in};
-    ghost use Rattle.std.specs.Iterator.{YieldsFirst};
-    ghost use Rattle.std.specs.Prelude.{◌≡◌, IsTrue, false, Some};
-    ghost use Rattle.tz_zone.specs.Answers.{listed};
+    ghost use Rattle.tz_zone.specs.{Answers.{AreMapped, EachOf}, Results.{has_one, first_in, second_in, only_in, is_none_in, is_ambiguous_in}, Answers.{listed}};
+    ghost use Rattle.std.specs.{Iterator.{YieldsFirst}, Prelude.{◌≡◌, IsTrue, false, Some}};
 
     /// What a function makes of each value, in the same order.
     pub fn map<U: Drop, F: Fn(T) -> U + Drop>(self, f: F) -> OffsetResult<U>
@@ -256,8 +245,7 @@ pub struct InstantsOf<'z, Z: AllInstants> {
 impl<'z, Z: AllInstants> InstantsOf<'z, Z> {
     ghost use Rattle.std.specs.Prelude.{◌≡◌, ◌≤◌, map, length};
     ghost use Rattle.civil_base.specs.DateTimes.{instant};
-    ghost use Rattle.tz_zone.specs.AllLeft.{all_left};
-    ghost use Rattle.tz_zone.specs.InForce.{all_in_force, shown_of, AreInstants};
+    ghost use Rattle.tz_zone.specs.{AllLeft.{all_left}, InForce.{all_in_force, shown_of, AreInstants}};
 
     /// The instants that the zone reads as that local time: at most one for each whole second between -26 and 26 hours.
     pub fn new(zone: &'z Z, local: &PlainDateTime) -> InstantsOf<'z, Z>
@@ -307,13 +295,9 @@ pub struct SpanScan {
 }
 
 impl SpanScan {
-    ghost use Rattle.std.specs.Iterator.{YieldsFirst};
-    ghost use Rattle.std.specs.Prelude.{◌≡◌, ◌≤◌, ◌+◌, length, map};
+    ghost use Rattle.std.specs.{Iterator.{YieldsFirst}, Prelude.{◌≡◌, ◌≤◌, ◌+◌, length, map}};
     ghost use Rattle.zone_spans.specs.Schedules.{total_at};
-    ghost use Rattle.tz_zone.specs.Cursors.{dates_to_scan};
-    ghost use Rattle.tz_zone.specs.InForce.{all_in_force, shown_of};
-    ghost use Rattle.tz_zone.specs.Sets.{schedule_of, IsAccepted};
-    ghost use Rattle.tz_zone.specs.declared.set.FixedTimespanSet.{FixedTimespanSet as Spans};
+    ghost use Rattle.tz_zone.specs.{Cursors.{dates_to_scan}, InForce.{all_in_force, shown_of}, Sets.{schedule_of, IsAccepted}, declared.set.FixedTimespanSet.{FixedTimespanSet as Spans}};
 
     /// Each span is still to look at.
     pub fn new(local: &PlainDateTime) -> SpanScan
@@ -354,8 +338,7 @@ pub enum SpanCursor {
 
 impl SpanCursor {
     ghost use Rattle.std.specs.Iterator.{YieldsFirst};
-    ghost use Rattle.tz_zone.specs.Cursors.{cursor_left};
-    ghost use Rattle.tz_zone.specs.Sets.{schedule_of, IsAccepted};
+    ghost use Rattle.tz_zone.specs.{Cursors.{cursor_left}, Sets.{schedule_of, IsAccepted}};
 
     /// The next of them.
     pub fn next<T: SpanTable>(&mut self, set: &T) -> Option<OffsetDateTime>

@@ -1,12 +1,8 @@
 //! A set of spans as a time zone.
 ghost use Rattle.std.specs.Prelude.{◌≡◌, ℕ, ℤ, ◌≤◌, ◌↔◌, length, IsTrue, int_lt, pos, List};
-ghost use Rattle.civil_base.specs.Ranges.{IsOffset};
-ghost use Rattle.zone_spans.specs.Entries.{total};
-ghost use Rattle.zone_spans.specs.Schedules.{instants, total_at};
-ghost use Rattle.civil_base.specs.Ranges.{is_offset};
-ghost use Rattle.tz_zone.specs.Cursors.{cursor_left};
-ghost use Rattle.tz_zone.specs.InForce.{GivesAt};
-ghost use Rattle.tz_zone.specs.Sets.{schedule_of, IsAccepted, IsOrderlyZone};
+ghost use Rattle.civil_base.specs.Ranges.{IsOffset, is_offset};
+ghost use Rattle.zone_spans.specs.{Entries.{total}, Schedules.{instants, total_at}};
+ghost use Rattle.tz_zone.specs.{Cursors.{cursor_left}, InForce.{GivesAt}, Sets.{schedule_of, IsAccepted, IsOrderlyZone}};
 
 use crate::instants::{InstantsIn, InstantsLocal};
 use crate::lookups::{SpanTable, local_spans, local_spans_counted, offset_of, span_in_force};
@@ -41,10 +37,7 @@ pub struct TzOffset<'a> {
 impl<'a> TzOffset<'a> {
     ghost use Rattle.std.specs.Prelude.{◌≡◌, ◌≤◌, ℤ, length, map};
     ghost use Rattle.civil_base.specs.Instants.{instant_at};
-    ghost use Rattle.tz_zone.specs.Answers.{listed, EachOf, IsUpTo};
-    ghost use Rattle.tz_zone.specs.InForce.{AreRead, IsInForce};
-    ghost use Rattle.tz_zone.specs.Sets.{schedule_of, IsAccepted, span_in, total_of_span};
-    ghost use Rattle.tz_zone.specs.Zones.{span_shown, total_shown, IsGivenFor};
+    ghost use Rattle.tz_zone.specs.{Answers.{listed, EachOf, IsUpTo}, InForce.{AreRead, IsInForce}, Sets.{schedule_of, IsAccepted, span_in, total_of_span}, Zones.{span_shown, total_shown, IsGivenFor}};
 
     /// The offset of a span of a set that can be looked up.
     pub fn of_span<T: SpanTable>(set: &'a T, index: usize) -> TzOffset<'a>
@@ -76,15 +69,9 @@ impl<'a> TzOffset<'a> {
 
 impl<'a> Tz<'a> {
     ghost use Rattle.std.specs.Prelude.{◌≡◌, ◌↔◌, ◌+◌, ◌-◌, ◌*◌, ◌^◌, ◌≤◌, IsTrue, MatchResult, length, map, take, pos};
-    ghost use Rattle.civil_base.specs.Instants.{instant_at};
-    ghost use Rattle.civil_base.specs.DateTimes.{instant, local_of, offset_of};
+    ghost use Rattle.civil_base.specs.{Instants.{instant_at}, DateTimes.{instant, local_of, offset_of}};
     ghost use Rattle.zone_spans.specs.Schedules.{total_at};
-    ghost use Rattle.tz_zone.specs.Answers.{listed, EachOf};
-    ghost use Rattle.tz_zone.specs.Faults.{IsFault};
-    ghost use Rattle.tz_zone.specs.InForce.{all_in_force, shown_of, totals_at, AreInstants};
-    ghost use Rattle.tz_zone.specs.InstantsLeft.{dates_left};
-    ghost use Rattle.tz_zone.specs.Sets.{schedule_of, IsAccepted, IsOrderlyZone};
-    ghost use Rattle.tz_zone.specs.Zones.{set_of, total_shown, IsGivenFor};
+    ghost use Rattle.tz_zone.specs.{Answers.{listed, EachOf}, Faults.{IsFault}, InForce.{all_in_force, shown_of, totals_at, AreInstants}, InstantsLeft.{dates_left}, Sets.{schedule_of, IsAccepted, IsOrderlyZone}, Zones.{set_of, total_shown, IsGivenFor}};
 
     /// The zone of a set. Whether the set is orderly is tested once, here.
     ///

@@ -1,17 +1,9 @@
 -- Words, ends and lines at worked rows.
-use Rattle.std.proofs.Common.{◌≡◌, ℕ, lit≤, List, [], ◌∷◌, ◌++◌, map, Option, Some, None, option_map, refl, ◌∙◌, arith, ℤ, pos, true, false}
-use Rattle.std.specs.Fmt.{digits}
-use Rattle.std.specs.Prelude.{codes}
-use Rattle.basics.specs.DateLaws.{year_of-day, month_of-day, day_of-day}
-use Rattle.basics.specs.Days.{is_leap, days_in_year, days_in_month, days_after_zero, year_start, days_through, days_into_year, day, IsCountedYear, IsDate}
-use Rattle.basics.specs.SignedLaws.{signed}
-use Rattle.civil_base.specs.Layout.{date_digits, day_part, four_digits, two_digits, year_sign}
-use Rattle.civil_base.specs.LocalTimes.{local_time_in}
+use Rattle.std.{proofs.Common.{◌≡◌, ℕ, lit≤, List, [], ◌∷◌, ◌++◌, map, Option, Some, None, option_map, refl, ◌∙◌, arith, ℤ, pos, true, false}, specs.Fmt.{digits}, specs.Prelude.{codes}}
+use Rattle.basics.specs.{DateLaws.{year_of-day, month_of-day, day_of-day}, Days.{is_leap, days_in_year, days_in_month, days_after_zero, year_start, days_through, days_into_year, day, IsCountedYear, IsDate}, SignedLaws.{signed}}
+use Rattle.civil_base.specs.{Layout.{date_digits, day_part, four_digits, two_digits, year_sign}, LocalTimes.{local_time_in}}
 use Rattle.tz_zone.specs.declared.set.FixedTimespanSet.{FixedTimespanSet}
-use Rattle.zone_alarm.specs.Asks.{asks, both, form}
-use Rattle.zone_alarm.specs.RingLines.{ring_line}
-use Rattle.zone_alarm.specs.Rings.{ends_in_years, rings, time_on}
-use Rattle.zone_alarm.specs.Words.{days_in, start_text}
+use Rattle.zone_alarm.specs.{Asks.{asks, both, form}, RingLines.{ring_line}, Rings.{ends_in_years, rings, time_on}, Words.{days_in, start_text}}
 
 -- from 1 to 36,600, with neither a sign nor a leading zero
 days : map days_in

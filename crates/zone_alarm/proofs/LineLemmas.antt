@@ -1,19 +1,10 @@
 -- The date at the front of a local text, and how long such a text is.
-use Rattle.std.proofs.Common.{◌≡◌, ℕ, ◌+◌, ◌-◌, ◌<◌, ◌≤◌, Bool, true, false, cond, List, ◌++◌, length, take, Some, None, ℤ, pos, ◌+ℤ◌, ◌*ℤ◌, refl, ap, ◌∙◌, arith}
-use Rattle.std.proofs.Math.Seq.{take-append-add}
-use Rattle.std.proofs.lemmas.List.{length-append}
-use Rattle.std.proofs.lemmas.Bool.{and_parts}
+use Rattle.std.proofs.{Common.{◌≡◌, ℕ, ◌+◌, ◌-◌, ◌<◌, ◌≤◌, Bool, true, false, cond, List, ◌++◌, length, take, Some, None, ℤ, pos, ◌+ℤ◌, ◌*ℤ◌, refl, ap, ◌∙◌, arith}, Math.Seq.{take-append-add}, lemmas.List.{length-append}, lemmas.Bool.{and_parts}}
 use Rattle.std.proofs.lemmas.Slice.Eq.{bytes_eq-Decides}
-use Rattle.basics.specs.Dates.{year_of}
-use Rattle.basics.specs.SignedLaws.{signed}
-use Rattle.civil_base.specs.Clock.{nanos_per_day}
-use Rattle.civil_base.specs.Layout.{day_part, local_text, year_sign}
-use Rattle.civil_base.specs.LayoutLaws.{local_text-sign, unsigned_text, unsigned_text-shape, year_sign-length}
-use Rattle.civil_base.specs.LocalTimes.{is_text_of, local_time_in, time_with}
-use Rattle.civil_base.specs.Ranges.{is_in_years}
 use Rattle.std.specs.Prelude.{codes}
-use Rattle.zone_alarm.specs.RingLines.{date_text}
-use Rattle.zone_alarm.specs.Words.{start_text}
+use Rattle.basics.specs.{Dates.{year_of}, SignedLaws.{signed}}
+use Rattle.civil_base.specs.{Clock.{nanos_per_day}, Layout.{day_part, local_text, year_sign}, LayoutLaws.{local_text-sign, unsigned_text, unsigned_text-shape, year_sign-length}, LocalTimes.{is_text_of, local_time_in, time_with}, Ranges.{is_in_years}}
+use Rattle.zone_alarm.specs.{RingLines.{date_text}, Words.{start_text}}
 
 local_length : (x : ℤ) → length (local_text x) ≡ length (year_sign (year_of (day_part x))) + 29
 local_length x =

@@ -1,18 +1,11 @@
 -- A day rings once, at the first instant of its time, and two days share no instant.
-use Rattle.std.proofs.Common.{◌≡◌, ◌≢◌, ℕ, zero, suc, ◌+◌, ◌<◌, List, [], ◌∷◌, map, Option, Some, None, IfSome, ℤ, pos, ◌+ℤ◌, ◌*ℤ◌, refl, sym, ap, ◌∙◌, arith}
-use Rattle.std.specs.Prelude.{All, AllPairs, Contains}
-use Rattle.std.specs.List.{range_with_len, slice_get}
-use Rattle.std.proofs.lemmas.Int.{ints}
-use Rattle.std.proofs.lemmas.List.Elements.{All-cons, All-map}
-use Rattle.std.proofs.lemmas.List.Kept.{AllPairs-cons}
+use Rattle.std.proofs.{Common.{◌≡◌, ◌≢◌, ℕ, zero, suc, ◌+◌, ◌<◌, List, [], ◌∷◌, map, Option, Some, None, IfSome, ℤ, pos, ◌+ℤ◌, ◌*ℤ◌, refl, sym, ap, ◌∙◌, arith}, lemmas.Int.{ints}, lemmas.List.Elements.{All-cons, All-map}, lemmas.List.Kept.{AllPairs-cons}}
 use Rattle.std.proofs.lemmas.Option.{none-some}
+use Rattle.std.specs.{Prelude.{All, AllPairs, Contains}, List.{range_with_len, slice_get}}
 use Rattle.civil_base.specs.Ranges.{IsOffset}
 use Rattle.zone_spans.specs.Schedules.{instants}
-use Rattle.tz_lookup.specs.InForce.{in_force, all_in_force, AreInstants}
-use Rattle.tz_lookup.specs.InstantLaws.{instants_are}
-use Rattle.tz_lookup.specs.RisingLaws.{contains_head, head_least}
-use Rattle.zone_alarm.specs.RingsOnce.{IsRead, IsFirst, RingsOnce, AreApart}
-use Rattle.zone_alarm.specs.Rings.{time_on, day_ring, ring_on, rings}
+use Rattle.tz_lookup.specs.{InForce.{in_force, all_in_force, AreInstants}, InstantLaws.{instants_are}, RisingLaws.{contains_head, head_least}}
+use Rattle.zone_alarm.specs.{RingsOnce.{IsRead, IsFirst, RingsOnce, AreApart}, Rings.{time_on, day_ring, ring_on, rings}}
 
 none_among : (t : ℤ) → Contains [] t → ⊥
 none_among t (k, within, e) = absurd (omega (arith, within))

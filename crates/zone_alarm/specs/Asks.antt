@@ -1,16 +1,11 @@
 -- What the words of the program ask of a zone.
-use Rattle.std.specs.Prelude.{◌≡◌, ℕ, List, [], ◌∷◌, Option, Some, None, Result, Ok, Err, Vec, map, option_map, ℤ, codes, if◌then◌else◌}
-use Rattle.std.specs.declared.alloc.Global.{Global}
+use Rattle.std.specs.{Prelude.{◌≡◌, ℕ, List, [], ◌∷◌, Option, Some, None, Result, Ok, Err, Vec, map, option_map, ℤ, codes, if◌then◌else◌}, declared.alloc.Global.{Global}}
 use Rattle.civil_base.specs.Layout.{day_part, time_part}
 use Rattle.tz_lookup.specs.Sets.{schedule_of}
-use Rattle.zone_run.specs.Asked.{Asked}
-use Rattle.zone_run.specs.declared.program.Refusal.{Refusal}
-use Rattle.zone_run.specs.declared.program.Refusal.TheVariants.{Cause, NoMemory}
+use Rattle.zone_run.specs.{Asked.{Asked}, declared.program.Refusal.{Refusal}, declared.program.Refusal.TheVariants.{Cause, NoMemory}}
 use Rattle.zone_source.specs.LineLists.{ended}
 use Rattle.zone_spans.specs.Schedules.{total_at}
-use Rattle.zone_alarm.specs.RingLines.{ring_line}
-use Rattle.zone_alarm.specs.Rings.{ends_in_years, rings}
-use Rattle.zone_alarm.specs.Words.{days_in, start_in}
+use Rattle.zone_alarm.specs.{RingLines.{ring_line}, Rings.{ends_in_years, rings}, Words.{days_in, start_in}}
 
 -- the last day is past 9999-12-31
 abbrev pub refusal : ℤ → ℕ → Option (List ℕ)

@@ -1,8 +1,6 @@
 -- When an alarm rings that is set to a time of day.
-use Rattle.std.specs.Prelude.{ℕ, Bool, ◌-◌, ◌==◌, ◌||◌, List, Option, map, ℤ, pos, ◌+ℤ◌, ◌*ℤ◌, int_le}
-use Rattle.std.specs.List.{range_with_len, slice_get}
-use Rattle.civil_base.specs.Clock.{nanos_per_day}
-use Rattle.civil_base.specs.Ranges.{last_day}
+use Rattle.std.specs.{Prelude.{ℕ, Bool, ◌-◌, ◌==◌, ◌||◌, List, Option, map, ℤ, pos, ◌+ℤ◌, ◌*ℤ◌, int_le}, List.{range_with_len, slice_get}}
+use Rattle.civil_base.specs.{Clock.{nanos_per_day}, Ranges.{last_day}}
 use Rattle.tz_lookup.specs.InForce.{all_in_force}
 
 -- the local time of a day at a time of day

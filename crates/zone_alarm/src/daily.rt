@@ -1,10 +1,7 @@
 //! The rings of many days.
 ghost use Rattle.std.specs.Prelude.{◌≡◌, ◌↔◌, [], ◌∷◌, ◌++◌, ℤ, pos, ◌+ℤ◌, All, AllPairs, IfOk, IfSome, IsErrOf, IsSome, OnOk, map, true, false};
-ghost use Rattle.civil_base.specs.Julian.{day_of_julian};
-ghost use Rattle.civil_base.specs.Ranges.{IsDay};
-ghost use Rattle.zone_alarm.specs.RingsOnce.{AreApart, RingsOnce};
-ghost use Rattle.zone_alarm.specs.Rings.{day_ring, ends_in_years, rings};
-ghost use Rattle.zone_alarm.specs.Shown.{ring_shown};
+ghost use Rattle.civil_base.specs.{Julian.{day_of_julian}, Ranges.{IsDay}};
+ghost use Rattle.zone_alarm.specs.{RingsOnce.{AreApart, RingsOnce}, Rings.{day_ring, ends_in_years, rings}, Shown.{ring_shown}};
 
 use crate::ring::{AlarmFault, Ring};
 use civil_base::{Date, PlainDateTime, Time};

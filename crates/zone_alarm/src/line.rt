@@ -1,9 +1,7 @@
 //! The line of a ring.
 ghost use Rattle.std.specs.Prelude.{◌≡◌, [], ◌++◌, OnOk, IfOk, map};
-ghost use Rattle.civil_base.specs.DateTimes.{instant, offset_of};
-ghost use Rattle.civil_base.specs.Layout.{zoned_text};
-ghost use Rattle.zone_alarm.specs.RingLines.{date_text, ring_line};
-ghost use Rattle.zone_alarm.specs.Shown.{ring_shown};
+ghost use Rattle.civil_base.specs.{DateTimes.{instant, offset_of}, Layout.{zoned_text}};
+ghost use Rattle.zone_alarm.specs.{RingLines.{date_text, ring_line}, Shown.{ring_shown}};
 
 use crate::ring::Ring;
 use civil_base::{Date, OffsetDateTime, PlainDateTime, Time, write_local, write_zoned};

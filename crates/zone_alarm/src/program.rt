@@ -1,13 +1,9 @@
 //! The program: its words, its answer, its run.
-ghost use Rattle.std.specs.Prelude.{◌≡◌, ◌<◌, codes};
-ghost use Rattle.std.specs.Option.{ForSome};
-ghost use Rattle.tz_lookup.specs.Sets.{schedule_of, IsAccepted};
-ghost use Rattle.tz_lookup.specs.Zones.{set_of};
-ghost use Rattle.zone_alarm.specs.Asks.{asks, form};
-ghost use Rattle.zone_run.specs.Ends.{Ends};
+ghost use Rattle.std.specs.{Prelude.{◌≡◌, ◌<◌, codes}, Option.{ForSome}};
+ghost use Rattle.tz_lookup.specs.{Sets.{schedule_of, IsAccepted}, Zones.{set_of}};
+ghost use Rattle.zone_alarm.specs.{Asks.{asks, form}, Starts.{StartsAlarm}};
+ghost use Rattle.zone_run.specs.{Ends.{Ends}, Tasks.{task_of}};
 ghost use Rattle.zone_source.specs.Runs.{seen};
-ghost use Rattle.zone_run.specs.Tasks.{task_of};
-ghost use Rattle.zone_alarm.specs.Starts.{StartsAlarm};
 
 use crate::daily::alarms;
 use crate::line::lines_of;

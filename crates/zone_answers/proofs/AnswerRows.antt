@@ -1,9 +1,7 @@
 -- What requests ask, and texts with bars between them, worked out.
-use Rattle.std.proofs.Common.{◌≡◌, ℕ, List, [], ◌∷◌, ◌++◌, map, Some, None, refl, pos, negsuc}
-use Rattle.std.specs.Prelude.{codes, option_map}
+use Rattle.std.{proofs.Common.{◌≡◌, ℕ, List, [], ◌∷◌, ◌++◌, map, Some, None, refl, pos, negsuc}, specs.Prelude.{codes, option_map}}
 use Rattle.civil_base.specs.LocalTimes.{local_time_in}
-use Rattle.zone_answers.specs.Due.{shown_at, with_bars}
-use Rattle.zone_answers.specs.Requests.{at, local, request_of, request_with, nanoseconds_in}
+use Rattle.zone_answers.specs.{Due.{shown_at, with_bars}, Requests.{at, local, request_of, request_with, nanoseconds_in}}
 
 -- none, one, two and three instants
 bars : map with_bars ([] ∷ (codes "a" ∷ []) ∷ (codes "a" ∷ codes "b" ∷ []) ∷ (codes "a" ∷ codes "b" ∷ codes "c" ∷ []) ∷ [])

@@ -1,32 +1,15 @@
 -- Answers and refusals at the zones of a table, and over the source whose table it is.
-use Rattle.std.proofs.Common.{◌≡◌, ℕ, suc, ℤ, Bool, true, false, cond, List, [], ◌∷◌, map, Option, Some, None, MatchOption, option_map, Result, Ok, Err, refl, sym, ap, subst, ◌∙◌}
-use Rattle.std.specs.List.{flat_map}
-use Rattle.std.specs.Option.{option_or, option_map_or}
-use Rattle.std.specs.Str.{is_utf8}
-use Rattle.std.proofs.lemmas.Option.{none-some}
-use Rattle.zone_values.specs.Faults as line
+use Rattle.std.proofs.{Common.{◌≡◌, ℕ, suc, ℤ, Bool, true, false, cond, List, [], ◌∷◌, map, Option, Some, None, MatchOption, option_map, Result, Ok, Err, refl, sym, ap, subst, ◌∙◌}, lemmas.Option.{none-some}}
+use Rattle.std.specs.{List.{flat_map}, Option.{option_or, option_map_or}, Str.{is_utf8}}
 use Rattle.zone_values.specs.declared.fault.FaultKind.{FaultKind}
-use Rattle.zone_source.specs.Faults.{SourceFault, source_fault, bad_line}
-use Rattle.zone_source.specs.Lines.{lines_of}
-use Rattle.zone_source.specs.Zones.{values_of, zone_in, rules_in}
-use Rattle.zone_spans.specs.Compiled.{compiled}
-use Rattle.zone_spans.specs.Lines.{Rulesets}
-use Rattle.zone_spans.specs.Schedules.{is_in_offset_range, total_at, totals_of}
-use Rattle.zone_spans.specs.declared.fault.SpanFault.{SpanFault}
-use Rattle.zone_spans.specs.declared.span.FixedTimespanSet.{FixedTimespanSet}
-use Rattle.zone_table.specs.Tables.{IsTableOf}
-use Rattle.zone_table.specs.declared.table.Table.{Table}
-use Rattle.zone_table.specs.declared.zone.ZoneInfo.{ZoneInfo}
-use Rattle.zone_answers.specs.Due.{answer_line, answer_lines_with, shown_for, shown_with}
-use Rattle.zone_answers.specs.Faults.{Fault, of_source, request_not_text, bad_request, bad_zone, range, has_dates, found_refusal, request_refusal, first_refused, source_refusal, fault, fault_with}
-use Rattle.zone_answers.specs.Found.{Reading, found_in, found_in_table, found_of, found_under, given_to_2099, offset_range, rules_end, to_2099}
-use Rattle.zone_answers.specs.Requests.{Request, name_of, request_of}
+use Rattle.zone_values.specs.Faults as line
+use Rattle.zone_source.specs.{Faults.{SourceFault, source_fault, bad_line}, Lines.{lines_of}, Zones.{values_of, zone_in, rules_in}}
+use Rattle.zone_spans.specs.{Compiled.{compiled}, Lines.{Rulesets}, Schedules.{is_in_offset_range, total_at, totals_of}, declared.fault.SpanFault.{SpanFault}, declared.span.FixedTimespanSet.{FixedTimespanSet}}
+use Rattle.zone_table.specs.{Tables.{IsTableOf}, declared.table.Table.{Table}, declared.zone.ZoneInfo.{ZoneInfo}}
+use Rattle.zone_answers.specs.{Due.{answer_line, answer_lines_with, shown_for, shown_with}, Faults.{Fault, of_source, request_not_text, bad_request, bad_zone, range, has_dates, found_refusal, request_refusal, first_refused, source_refusal, fault, fault_with}}
+use Rattle.zone_answers.specs.{Found.{Reading, found_in, found_in_table, found_of, found_under, given_to_2099, offset_range, rules_end, to_2099}, Requests.{Request, name_of, request_of}, Told.{fault_told, TellsOf, TellsReading}}
+use Rattle.zone_answers.specs.declared.error.{AnswerError.{AnswerError}, AnswerError.TheVariants.{NoMemory}, ReadingError.{ReadingError}, ReadingError.TheVariants.{Answer, RulesEnd}}
 use Rattle.zone_run.specs.FoundLaws as zones
-use Rattle.zone_answers.specs.Told.{fault_told, TellsOf, TellsReading}
-use Rattle.zone_answers.specs.declared.error.AnswerError.{AnswerError}
-use Rattle.zone_answers.specs.declared.error.AnswerError.TheVariants.{NoMemory}
-use Rattle.zone_answers.specs.declared.error.ReadingError.{ReadingError}
-use Rattle.zone_answers.specs.declared.error.ReadingError.TheVariants.{Answer, RulesEnd}
 
 -- names find in the table of a source what they find in the source
 found_is : (read : Reading) (table : Table) (source : List ℕ) → IsTableOf table (values_of source)

@@ -1,16 +1,8 @@
 -- The number of zones that a word asks for: the definition finds exactly it, and so does what `parse` reads.
-use Rattle.std.proofs.Common.{◌≡◌, ℕ, ◌^◌, ◌<◌, ◌≤◌, ◌&&◌, ◌↔◌, Bool, true, false, cond, List, [], ◌∷◌, Option, Some, None, Result, Ok, Err, refl, ap, ◌∙◌, subst, arith, nat_le, lit<}
-use Rattle.std.specs.Prelude.{bytes_eq, codes, decimal, option_map}
-use Rattle.std.proofs.lemmas.Bool.{and_parts, and_from, both_ways, leb-true, le-leb}
-use Rattle.std.proofs.lemmas.Fmt.{decimal_is_IsNumeral, parse-decimal}
-use Rattle.std.proofs.lemmas.Option.{none-some}
-use Rattle.std.proofs.lemmas.Slice.Eq.{bytes_eq-Decides}
-use Rattle.std.specs.Bool.{then_some}
-use Rattle.std.specs.Option.{MatchOption, unwrap_or}
-use Rattle.std.specs.Result.{result_ok}
-use Rattle.std.specs.Str.Parse.{digits_value, ParsesUnsigned}
-use Rattle.zone_answers.specs.Counts.{IsCount, is_count, count_in, most_zones}
-use Rattle.zone_answers.specs.Words.{generate, count_of, task_in, task_of_two}
+use Rattle.std.proofs.{Common.{◌≡◌, ℕ, ◌^◌, ◌<◌, ◌≤◌, ◌&&◌, ◌↔◌, Bool, true, false, cond, List, [], ◌∷◌, Option, Some, None, Result, Ok, Err, refl, ap, ◌∙◌, subst, arith, nat_le, lit<}, lemmas.Bool.{and_parts, and_from, both_ways, leb-true, le-leb}}
+use Rattle.std.proofs.lemmas.{Fmt.{decimal_is_IsNumeral, parse-decimal}, Option.{none-some}, Slice.Eq.{bytes_eq-Decides}}
+use Rattle.std.specs.{Prelude.{bytes_eq, codes, decimal, option_map}, Bool.{then_some}, Option.{MatchOption, unwrap_or}, Result.{result_ok}, Str.Parse.{digits_value, ParsesUnsigned}}
+use Rattle.zone_answers.specs.{Counts.{IsCount, is_count, count_in, most_zones}, Words.{generate, count_of, task_in, task_of_two}}
 
 holds : (n : ℕ) (text : List ℕ) → is_count n text ≡ true → IsCount n text
 holds n text is =

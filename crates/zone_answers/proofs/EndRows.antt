@@ -1,7 +1,6 @@
 -- Which statuses write nothing.
 use Rattle.std.proofs.Common.{◌≢◌, refl, inl, inr}
-use Rattle.zone_source.specs.Statuses.{IsSilent}
-use Rattle.zone_source.specs.declared.running.Status.{Status}
+use Rattle.zone_source.specs.{Statuses.{IsSilent}, declared.running.Status.{Status}}
 use Rattle.zone_source.specs.declared.running.Status.TheVariants as status
 
 -- nothing is written by every status but those of the lines, of a fault's line, and of a failed output

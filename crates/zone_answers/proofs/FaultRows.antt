@@ -1,25 +1,14 @@
 -- Which fault of a request comes first, and which dates leave the years, at worked rows.
-use Rattle.std.proofs.Common.{◌≡◌, ℕ, List, [], ◌∷◌, map, Some, None, Result, Ok, Err, refl, ℤ, pos, negsuc, true, false}
-use Rattle.std.specs.Fmt.{digits}
-use Rattle.std.specs.Prelude.{codes}
-use Rattle.std.specs.Str.{is_utf8, chars}
+use Rattle.std.{proofs.Common.{◌≡◌, ℕ, List, [], ◌∷◌, map, Some, None, Result, Ok, Err, refl, ℤ, pos, negsuc, true, false}, specs.Fmt.{digits}, specs.Prelude.{codes}, specs.Str.{is_utf8, chars}}
 use lib.Utf8.{encode}
-use Rattle.zone_source.specs.Faults.{not_text, source_fault}
-use Rattle.zone_source.specs.Lines.{lines_of}
-use Rattle.zone_spans.specs.Lines.{Rulesets}
-use Rattle.zone_spans.specs.Schedules.{total_at, totals_of}
-use Rattle.zone_spans.specs.declared.fault.SpanFault.{SpanFault}
+use Rattle.zone_source.specs.{Faults.{not_text, source_fault}, Lines.{lines_of}, LineLists.{ended}}
+use Rattle.zone_spans.specs.{Lines.{Rulesets}, Schedules.{total_at, totals_of}, declared.fault.SpanFault.{SpanFault}, declared.span.FixedTimespanSet.{FixedTimespanSet}}
 use Rattle.zone_spans.specs.declared.fault.SpanFault.TheVariants as span
-use Rattle.zone_spans.specs.declared.span.FixedTimespanSet.{FixedTimespanSet}
-use Rattle.zone_source.specs.LineLists.{ended}
-use Rattle.zone_answers.specs.FaultLines.{fault_line}
-use Rattle.zone_answers.specs.Told.{fault_told, reading_told}
+use Rattle.zone_answers.specs.{FaultLines.{fault_line}, Told.{fault_told, reading_told}, declared.error.Side.TheVariants.{Source, Requests}}
+use Rattle.zone_answers.specs.Faults.{are_in_years, fault, fault_with, has_dates, found_refusal, request_refusal, first_refused, of_source, request_not_text, bad_request, bad_zone, range}
+use Rattle.zone_answers.specs.{Found.{Found, Reading, bad_schedule, found_of, found_under, offset_range, rules_end, unknown_zone}, Requests.{local, request_of, request_with, nanoseconds_in}}
 use Rattle.zone_answers.specs.declared.error.AnswerError.TheVariants as error
 use Rattle.zone_answers.specs.declared.error.ReadingError.TheVariants as reading
-use Rattle.zone_answers.specs.declared.error.Side.TheVariants.{Source, Requests}
-use Rattle.zone_answers.specs.Faults.{are_in_years, fault, fault_with, has_dates, found_refusal, request_refusal, first_refused, of_source, request_not_text, bad_request, bad_zone, range}
-use Rattle.zone_answers.specs.Found.{Found, Reading, bad_schedule, found_of, found_under, offset_range, rules_end, unknown_zone}
-use Rattle.zone_answers.specs.Requests.{local, request_of, request_with, nanoseconds_in}
 
 -- a set of one offset
 abbrev one_offset : ℤ → Result FixedTimespanSet SpanFault

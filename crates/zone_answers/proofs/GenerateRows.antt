@@ -1,19 +1,9 @@
 -- What `--generate` asks for, the texts that are made, and summaries, worked out.
-use Rattle.std.proofs.Common.{◌≡◌, [], ◌∷◌, ◌++◌, map, Some, None, refl}
-use Rattle.std.specs.Fmt.{digits}
-use Rattle.std.specs.Prelude.{codes}
-use Rattle.std.specs.Str.{is_utf8, chars}
+use Rattle.std.{proofs.Common.{◌≡◌, [], ◌∷◌, ◌++◌, map, Some, None, refl}, specs.Fmt.{digits}, specs.Prelude.{codes}, specs.Str.{is_utf8, chars}}
 use lib.Utf8.{encode}
-use Rattle.zone_source.specs.Faults.{source_fault}
-use Rattle.zone_source.specs.Lines.{lines_of}
-use Rattle.zone_source.specs.LineLists.{ended}
-use Rattle.zone_answers.specs.Counts.{count_in}
-use Rattle.zone_answers.specs.Due.{answer_lines_with, due_bytes, due_bytes_with}
-use Rattle.zone_answers.specs.Faults.{fault_with, request_refusal}
-use Rattle.zone_answers.specs.Made.{numbers_to, zone_line, at_line, local_line, made_source, made_requests}
-use Rattle.zone_answers.specs.Requests.{request_of, request_with}
-use Rattle.zone_answers.specs.Summary.{summary, due_summary, due_summary_with}
-use Rattle.zone_answers.specs.Words.{answer_over, generate, task_in}
+use Rattle.zone_source.specs.{Faults.{source_fault}, Lines.{lines_of}, LineLists.{ended}}
+use Rattle.zone_answers.specs.{Counts.{count_in}, Due.{answer_lines_with, due_bytes, due_bytes_with}, Faults.{fault_with, request_refusal}, Made.{numbers_to, zone_line, at_line, local_line, made_source, made_requests}, Requests.{request_of, request_with}}
+use Rattle.zone_answers.specs.{Summary.{summary, due_summary, due_summary_with}, Words.{answer_over, generate, task_in}}
 
 -- numbers from 1 to 1000, and none of 0, of more, of leading zeros, of signs, spaces or letters
 numbers : map count_in

@@ -1,8 +1,5 @@
 -- The made texts, a zone more at a time.
-use Rattle.std.proofs.Common.{◌≡◌, ℕ, suc, ◌+◌, List, [], ◌∷◌, ◌++◌, map, sym, ap, ◌∙◌, append_assoc, append-nil, add-one}
-use Rattle.std.proofs.lemmas.List.{map-append}
-use Rattle.std.proofs.lemmas.Grind.{flat_map-append}
-use Rattle.std.specs.List.{flat_map}
+use Rattle.std.{proofs.Common.{◌≡◌, ℕ, suc, ◌+◌, List, [], ◌∷◌, ◌++◌, map, sym, ap, ◌∙◌, append_assoc, append-nil, add-one}, proofs.lemmas.List.{map-append}, proofs.lemmas.Grind.{flat_map-append}, specs.List.{flat_map}}
 use Rattle.zone_source.specs.LineLists.{ended}
 use Rattle.zone_answers.specs.Made.{numbers_to, rule_lines, zone_line, at_line, local_line, made_source, made_requests}
 

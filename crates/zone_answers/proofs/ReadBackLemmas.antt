@@ -1,25 +1,12 @@
 -- Each instant that is shown of a request that is not refused is read back.
-use Rattle.std.proofs.Common.{◌≡◌, ℕ, zero, suc, Bool, true, false, cond, List, [], ◌∷◌, length, map, filter, Option, Some, None, option_map, Ok, refl, sym, ap, ◌∙◌, subst, arith, ℤ}
-use Rattle.std.specs.Prelude.{All, bytes_eq, codes, nat_lt}
-use Rattle.std.specs.List.{before_first, after_first, flat_map}
-use Rattle.std.specs.Ordering.{int_eq}
-use Rattle.std.proofs.lemmas.Bool.{and_parts}
-use Rattle.std.proofs.lemmas.Bool.Decides.{Decides-int_eq}
-use Rattle.std.proofs.lemmas.Int.{ints}
-use Rattle.std.proofs.lemmas.List.Elements.{All-append}
-use Rattle.civil_base.specs.Instants.{instant_at, local_at}
-use Rattle.civil_base.specs.LocalTimes.{is_text_of, time_with, local_time_in}
-use Rattle.civil_base.specs.Ranges.{is_in_years, is_offset}
-use Rattle.civil_base.specs.ReadAsLaws.{zoned_text-read}
+use Rattle.std.proofs.{Common.{◌≡◌, ℕ, zero, suc, Bool, true, false, cond, List, [], ◌∷◌, length, map, filter, Option, Some, None, option_map, Ok, refl, sym, ap, ◌∙◌, subst, arith, ℤ}, lemmas.Bool.{and_parts}, lemmas.Bool.Decides.{Decides-int_eq}}
+use Rattle.std.proofs.lemmas.{Int.{ints}, List.Elements.{All-append}}
+use Rattle.std.specs.{Prelude.{All, bytes_eq, codes, nat_lt}, List.{before_first, after_first, flat_map}, Ordering.{int_eq}}
+use Rattle.civil_base.specs.{Instants.{instant_at, local_at}, LocalTimes.{is_text_of, time_with, local_time_in}, Ranges.{is_in_years, is_offset}, ReadAsLaws.{zoned_text-read}}
 use Rattle.zone_spans.specs.Schedules.{offsets, instants}
 use Rattle.tz_lookup.specs.InForce.{in_force, all_in_force}
-use Rattle.zone_answers.specs.Requests.{Request, at, local, name_of, is_space, nanoseconds_in, request_of, request_with}
-use Rattle.zone_answers.specs.AskedLaws.{Asks}
-use Rattle.zone_answers.specs.Due.{shown_at, shown_for}
-use Rattle.zone_answers.specs.Faults.{has_dates}
-use Rattle.zone_answers.specs.Found.{Found}
+use Rattle.zone_answers.specs.{Requests.{Request, at, local, name_of, is_space, nanoseconds_in, request_of, request_with}, AskedLaws.{Asks}, Due.{shown_at, shown_for}, Faults.{has_dates}, Found.{Found}, ReadBack.{IsReadBack}}
 use Rattle.zone_answers.proofs.RefusalLemmas.{shown_is}
-use Rattle.zone_answers.specs.ReadBack.{IsReadBack}
 
 -- the local time of a request lies in the years
 HasYears : Option Request → Type 0

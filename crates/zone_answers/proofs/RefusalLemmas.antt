@@ -1,17 +1,7 @@
 -- Why a request line is refused, and the line that answers one that is not.
-use Rattle.std.proofs.Common.{◌≡◌, ℕ, ℤ, List, [], true, false, cond, Option, Some, None, MatchOption, Ok, Err, sym, ap, ◌∙◌}
-use Rattle.std.specs.Option.{option_map_or}
-use Rattle.std.specs.Str.{is_utf8}
-use Rattle.std.proofs.lemmas.Option.{none-some}
-use Rattle.zone_answers.specs.AskedLaws.{Asks}
-use Rattle.zone_answers.specs.Due.{answer_line, answer_text, shown_at, shown_for, shown_found}
-use Rattle.zone_answers.specs.Faults.{Fault, bad_request, request_not_text, dates_refusal, found_refusal, request_refusal, zone_refusal}
-use Rattle.zone_answers.specs.Found.{Found}
-use Rattle.zone_answers.specs.Requests.{Request, name_of, request_of}
-use Rattle.zone_answers.specs.Told.{TellsReading, reading_told}
-use Rattle.zone_answers.specs.declared.error.AnswerError.TheVariants.{NoMemory}
-use Rattle.zone_answers.specs.declared.error.ReadingError.{ReadingError}
-use Rattle.zone_answers.specs.declared.error.ReadingError.TheVariants.{Answer}
+use Rattle.std.{proofs.Common.{◌≡◌, ℕ, ℤ, List, [], true, false, cond, Option, Some, None, MatchOption, Ok, Err, sym, ap, ◌∙◌}, specs.Option.{option_map_or}, specs.Str.{is_utf8}, proofs.lemmas.Option.{none-some}}
+use Rattle.zone_answers.specs.{AskedLaws.{Asks}, Due.{answer_line, answer_text, shown_at, shown_for, shown_found}, Faults.{Fault, bad_request, request_not_text, dates_refusal, found_refusal, request_refusal, zone_refusal}, Found.{Found}}
+use Rattle.zone_answers.specs.{Requests.{Request, name_of, request_of}, Told.{TellsReading, reading_told}, declared.error.AnswerError.TheVariants.{NoMemory}, declared.error.ReadingError.{ReadingError}, declared.error.ReadingError.TheVariants.{Answer}}
 
 pub not_text_refused : (names : List ℕ → Found) (n : ℕ) (line : List ℕ) → is_utf8 line ≡ false
     → request_refusal names n line ≡ Some (request_not_text n)

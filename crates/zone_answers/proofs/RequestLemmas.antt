@@ -1,17 +1,9 @@
 -- A number of nanoseconds, digit by digit; the place of a space.
-use Rattle.std.proofs.Common.{◌≡◌, sym, Option, Some, None, ℕ, zero, suc, ◌+◌, ◌-◌, ◌*◌, ◌^◌, ◌<◌, ◌≤◌, ◌&&◌, true, Bool, List, [], ◌∷◌, length, take, get_or, arith, nat_lt, nat_le, ltb-true, lit<, lit≤}
-use Rattle.std.proofs.Common.{length-take}
-use Rattle.memchr.specs.Find.{IsFirstByte, is_byte}
-use Rattle.std.proofs.lemmas.Bool.{and_parts, leb-true, false_from_ne_true}
-use Rattle.std.proofs.lemmas.Int.Digits.{digits_value-lt, digits_value_more}
-use Rattle.std.proofs.lemmas.Str.{digit_value_digit}
-use Rattle.std.proofs.lemmas.Str.Parse.{digit_from_value, digits_value-take-le}
-use Rattle.std.proofs.Math.Nat.{pow-le-pow_right}
-use Rattle.std.specs.Char.{digit_value, is_digit}
+use Rattle.std.proofs.Common.{◌≡◌, sym, Option, Some, None, ℕ, zero, suc, ◌+◌, ◌-◌, ◌*◌, ◌^◌, ◌<◌, ◌≤◌, ◌&&◌, true, Bool, List, [], ◌∷◌, length, take, get_or, arith, nat_lt, nat_le, ltb-true, lit<, lit≤, length-take}
+use Rattle.std.proofs.{lemmas.Bool.{and_parts, leb-true, false_from_ne_true}, lemmas.Int.Digits.{digits_value-lt, digits_value_more}, lemmas.Str.{digit_value_digit}, lemmas.Str.Parse.{digit_from_value, digits_value-take-le}, Math.Nat.{pow-le-pow_right}}
 use Rattle.std.proofs.lemmas.List.Sums.{position_or_len_is}
-use Rattle.std.specs.List.{list_all, position_or_len}
-use Rattle.std.specs.Option.{unwrap_or}
-use Rattle.std.specs.Str.Parse.{AllDigits, digits_value}
+use Rattle.std.specs.{Char.{digit_value, is_digit}, List.{list_all, position_or_len}, Option.{unwrap_or}, Str.Parse.{AllDigits, digits_value}}
+use Rattle.memchr.specs.Find.{IsFirstByte, is_byte}
 use Rattle.zone_answers.specs.Requests.{is_number, is_space}
 
 abbrev all_pass : List ℕ → Bool

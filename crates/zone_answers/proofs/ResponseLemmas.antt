@@ -1,25 +1,11 @@
 -- What was written is of the due bytes.
-use Rattle.std.proofs.Common.{◌≡◌, ℕ, List, [], ◌∷◌, ◌++◌, Option, Some, None, IfSome, MatchOption, sym, ap, ◌∙◌}
-use Rattle.std.specs.Option.{option_map_or}
-use Rattle.zone_outside.specs.Outside.{GrewByPrefix}
-use Rattle.zone_source.specs.LineLists.{ended}
-use Rattle.zone_answers.specs.Due.{answer_lines_with, due_bytes_with}
-use Rattle.zone_answers.specs.Faults.{IsValidWith, fault_with}
+use Rattle.std.{proofs.Common.{◌≡◌, ℕ, List, [], ◌∷◌, ◌++◌, Option, Some, None, IfSome, MatchOption, sym, ap, ◌∙◌}, specs.Option.{option_map_or}}
+use Rattle.zone_outside.specs.{Outside.{GrewByPrefix}, Seen.{OutputSeen, Grew, GrewBySome}}
+use Rattle.zone_source.specs.{LineLists.{ended}, Responses.{Responds}, declared.running.Answered.{Answered}, declared.running.Answered.TheVariants.{Done, Fault, Failed, NoMemory}}
+use Rattle.zone_answers.specs.{Due.{answer_lines_with, due_bytes_with}, Faults.{IsValidWith, fault_with}, FaultLines.{fault_line}, Found.{Reading}, Told.{reading_told, TellsReading}, Ends.{writes_with}, Responses.{RespondsError, due_in, lines_in}}
+use Rattle.zone_answers.specs.{Summary.{summary, due_summary_with}, declared.error.ReadingError.{ReadingError}, declared.error.ReadingError.TheVariants.{Answer}, declared.answering.Form.{Form}}
 use Rattle.zone_answers.specs.Faults as faults
-use Rattle.zone_answers.specs.FaultLines.{fault_line}
-use Rattle.zone_answers.specs.Found.{Reading}
-use Rattle.zone_answers.specs.Told.{reading_told, TellsReading}
-use Rattle.zone_outside.specs.Seen.{OutputSeen, Grew, GrewBySome}
-use Rattle.zone_answers.specs.Ends.{writes_with}
-use Rattle.zone_answers.specs.Responses.{RespondsError, due_in, lines_in}
-use Rattle.zone_source.specs.Responses.{Responds}
-use Rattle.zone_answers.specs.Summary.{summary, due_summary_with}
-use Rattle.zone_answers.specs.declared.error.ReadingError.{ReadingError}
-use Rattle.zone_answers.specs.declared.error.ReadingError.TheVariants.{Answer}
 use Rattle.zone_answers.specs.declared.error.AnswerError.TheVariants as errors
-use Rattle.zone_source.specs.declared.running.Answered.{Answered}
-use Rattle.zone_source.specs.declared.running.Answered.TheVariants.{Done, Fault, Failed, NoMemory}
-use Rattle.zone_answers.specs.declared.answering.Form.{Form}
 use Rattle.zone_answers.specs.declared.answering.Form.TheVariants as forms
 
 -- without a fault the lines are due

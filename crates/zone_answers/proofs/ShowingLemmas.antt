@@ -1,8 +1,5 @@
 -- Texts with bars, written one after another; the local time of each instant that is read as one.
-use Rattle.std.proofs.Common.{◌≡◌, ℕ, ℤ, List, [], ◌∷◌, map, filter, Bool, true, false, cond, refl, arith}
-use Rattle.std.proofs.lemmas.Bool.Decides.{Decides-int_eq}
-use Rattle.std.proofs.lemmas.Int.{ints}
-use Rattle.std.specs.Ordering.{int_eq}
+use Rattle.std.{proofs.Common.{◌≡◌, ℕ, ℤ, List, [], ◌∷◌, map, filter, Bool, true, false, cond, refl, arith}, proofs.lemmas.Bool.Decides.{Decides-int_eq}, proofs.lemmas.Int.{ints}, specs.Ordering.{int_eq}}
 use Rattle.civil_base.specs.Instants.{instant_at, local_at}
 use Rattle.tz_lookup.specs.InForce.{all_in_force, in_force}
 use Rattle.zone_spans.specs.Schedules.{instants, offsets}

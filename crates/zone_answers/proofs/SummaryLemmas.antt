@@ -1,7 +1,5 @@
 -- Lines with their line feeds, counted and summed.
-use Rattle.std.proofs.Common.{◌≡◌, ℕ, ◌+◌, ◌*◌, List, [], ◌∷◌, ◌++◌, length, sum, refl, arith, length-append}
-use Rattle.std.proofs.lemmas.List.Sums.{sum_by-append}
-use Rattle.std.specs.List.{concat}
+use Rattle.std.{proofs.Common.{◌≡◌, ℕ, ◌+◌, ◌*◌, List, [], ◌∷◌, ◌++◌, length, sum, refl, arith, length-append}, proofs.lemmas.List.Sums.{sum_by-append}, specs.List.{concat}}
 use Rattle.zone_source.specs.LineLists.{ended}
 
 -- each line has one line feed

@@ -1,17 +1,10 @@
 -- Zones that were asked for so far, one more.
-use Rattle.std.proofs.Common.{◌≡◌, ℕ, zero, suc, List, [], ◌∷◌, ◌++◌, length, Bool, true, false, cond, Option, Some, None, Ok, IfSome, refl, subst, ap, arith, ◌<◌}
-use Rattle.std.proofs.lemmas.Slice.Eq.{bytes_eq-Decides}
-use Rattle.std.specs.Prelude.{IsSomeAnd, bytes_eq, slice_get}
-use Rattle.std.specs.FinMap.{FinMap, get, insert}
-use Rattle.basics.specs.Keyed.{text_cmp}
-use Rattle.basics.specs.KeyedLaws.{get-inserted}
+use Rattle.std.proofs.{Common.{◌≡◌, ℕ, zero, suc, List, [], ◌∷◌, ◌++◌, length, Bool, true, false, cond, Option, Some, None, Ok, IfSome, refl, subst, ap, arith, ◌<◌}, lemmas.Slice.Eq.{bytes_eq-Decides}}
+use Rattle.std.specs.{Prelude.{IsSomeAnd, bytes_eq, slice_get}, FinMap.{FinMap, get, insert}}
+use Rattle.basics.specs.{Keyed.{text_cmp}, KeyedLaws.{get-inserted}}
 use Rattle.zone_run.specs.Readings.{found_under}
-use Rattle.zone_table.specs.Resolved.{resolved_in}
-use Rattle.zone_table.specs.declared.table.Table.{Table}
-use Rattle.zone_answers.specs.Found.{Reading, found_in_table}
-use Rattle.zone_answers.specs.Opened.{IsOpened, IsPlaced}
-use Rattle.zone_answers.specs.declared.opened.Last.{Last}
-use Rattle.zone_answers.specs.declared.opened.OpenedZone.{Ghosts}
+use Rattle.zone_table.specs.{Resolved.{resolved_in}, declared.table.Table.{Table}}
+use Rattle.zone_answers.specs.{Found.{Reading, found_in_table}, Opened.{IsOpened, IsPlaced}, declared.opened.Last.{Last}, declared.opened.OpenedZone.{Ghosts}}
 
 -- names that lead to the same lines find the same
 pub same_found : (read : Reading) (table : Table) (stem name : List ℕ) → resolved_in table stem ≡ resolved_in table name

@@ -1,6 +1,5 @@
 -- A line that is a text of what it asks, whatever the requests.
-use Rattle.std.proofs.Common.{◌≡◌, ℕ, List, true, Option, Some, sym, ap, ◌∙◌}
-use Rattle.std.specs.Str.{is_utf8}
+use Rattle.std.{proofs.Common.{◌≡◌, ℕ, List, true, Option, Some, sym, ap, ◌∙◌}, specs.Str.{is_utf8}}
 
 -- the line is a text, and is read as this
 pub record Asks {A : Type 0} (read : List ℕ → Option A) (line : List ℕ) (request : A) : Type 0 where

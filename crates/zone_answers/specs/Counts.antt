@@ -1,6 +1,5 @@
 -- The number of zones that a word asks for.
-use Rattle.std.specs.Prelude.{◌≡◌, ◌≤◌, ℕ, Bool, ◌&&◌, List, Option, Some, None, bytes_eq, decimal, nat_le, if◌then◌else◌}
-use Rattle.std.specs.Str.Parse.{digits_value}
+use Rattle.std.specs.{Prelude.{◌≡◌, ◌≤◌, ℕ, Bool, ◌&&◌, List, Option, Some, None, bytes_eq, decimal, nat_le, if◌then◌else◌}, Str.Parse.{digits_value}}
 
 abbrev pub most_zones : ℕ
 most_zones = 1000

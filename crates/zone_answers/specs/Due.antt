@@ -1,14 +1,8 @@
 -- The bytes that are due for a source and its requests.
-use Rattle.std.specs.Prelude.{ℕ, ℤ, List, [], ◌∷◌, ◌++◌, map, codes, Ok, Err}
-use Rattle.std.specs.List.{flat_map}
-use Rattle.std.specs.Option.{option_map_or}
+use Rattle.std.specs.{Prelude.{ℕ, ℤ, List, [], ◌∷◌, ◌++◌, map, codes, Ok, Err}, List.{flat_map}, Option.{option_map_or}}
 use Rattle.civil_base.specs.Layout.{zoned_text}
-use Rattle.zone_source.specs.LineLists.{ended}
-use Rattle.zone_answers.specs.Faults.{fault_with}
-use Rattle.zone_answers.specs.FaultLines.{fault_line}
-use Rattle.zone_answers.specs.Found.{Found, Reading, found_in, to_2099}
-use Rattle.zone_answers.specs.Requests.{Request, at, local, name_of, request_of}
-use Rattle.zone_source.specs.Lines.{lines_of}
+use Rattle.zone_source.specs.{LineLists.{ended}, Lines.{lines_of}}
+use Rattle.zone_answers.specs.{Faults.{fault_with}, FaultLines.{fault_line}, Found.{Found, Reading, found_in, to_2099}, Requests.{Request, at, local, name_of, request_of}}
 use Rattle.tz_lookup.specs.InForce.{in_force, all_in_force}
 
 -- the instants that answer a request at a zone of these totals, by time, each at the offset in force

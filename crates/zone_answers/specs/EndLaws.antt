@@ -1,10 +1,7 @@
 -- After the lines, after the line of a fault and for want of memory a run ends by the fault of its texts.
 use Rattle.std.specs.Prelude.{ℕ, List}
-use Rattle.zone_answers.specs.Ends.{writes_with}
-use Rattle.zone_answers.specs.Faults.{fault_with}
-use Rattle.zone_answers.specs.Found.{Reading}
-use Rattle.zone_source.specs.EndLaws.{ends_valid, ends_refused, ends_without}
-use Rattle.zone_source.specs.Runs.{EndsWell}
+use Rattle.zone_answers.specs.{Ends.{writes_with}, Faults.{fault_with}, Found.{Reading}}
+use Rattle.zone_source.specs.{EndLaws.{ends_valid, ends_refused, ends_without}, Runs.{EndsWell}}
 
 pub ends_well : (read : Reading) (due : List ℕ → List ℕ → List ℕ) → EndsWell (writes_with read due)
 ends_well read due = record {

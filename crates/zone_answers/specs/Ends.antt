@@ -1,14 +1,8 @@
 -- How a run ends.
 use Rattle.std.specs.Prelude.{◌≢◌, ℕ, List, Option, None, IsNone, All}
 use Rattle.zone_outside.specs.Seen.{Grew, GrewBySome}
-use Rattle.zone_answers.specs.Due.{shown_with, due_bytes}
-use Rattle.zone_answers.specs.Faults.{fault_with, IsValidWith}
-use Rattle.zone_answers.specs.Found.{Reading, to_2099}
-use Rattle.zone_answers.specs.ReadBack.{IsReadBack}
-use Rattle.zone_answers.specs.Words.{Task, file_of}
-use Rattle.zone_source.specs.Runs.{EndsOver, Seen, Writes}
-use Rattle.zone_source.specs.Statuses.{EndsBy}
-use Rattle.zone_source.specs.declared.running.Status.{Status}
+use Rattle.zone_answers.specs.{Due.{shown_with, due_bytes}, Faults.{fault_with, IsValidWith}, Found.{Reading, to_2099}, ReadBack.{IsReadBack}, Words.{Task, file_of}}
+use Rattle.zone_source.specs.{Runs.{EndsOver, Seen, Writes}, Statuses.{EndsBy}, declared.running.Status.{Status}}
 
 -- what is written of a source and its requests where zones are read in this way, these bytes being due: all of them where the texts
 -- are valid, each line then being read back as its instant, and where there is a fault; the status is by the fault

@@ -2,8 +2,7 @@
 use Rattle.std.specs.Prelude.{ℕ, List, [], codes}
 use Rattle.zone_source.specs.FaultLines.{line_with, source_line}
 use Rattle.zone_spans.specs.FaultNames.{fault_name}
-use Rattle.zone_answers.specs.Faults.{Fault, of_source, request_not_text, bad_request, bad_zone, range}
-use Rattle.zone_answers.specs.Found.{unknown_zone, bad_schedule, offset_range, rules_end}
+use Rattle.zone_answers.specs.{Faults.{Fault, of_source, request_not_text, bad_request, bad_zone, range}, Found.{unknown_zone, bad_schedule, offset_range, rules_end}}
 
 abbrev pub request_line : ℕ → List ℕ → List ℕ → List ℕ
 request_line n group cause = line_with (codes "request ") n group cause

@@ -1,13 +1,8 @@
 -- Why a source or a request is refused, with the number of its line.
-use Rattle.std.specs.Prelude.{◌≡◌, ℕ, suc, Bool, true, ◌&&◌, ℤ, List, [], ◌∷◌, Option, Some, None, option_map, Ok, Err, if◌then◌else◌}
-use Rattle.std.specs.Option.{option_or, option_map_or}
-use Rattle.std.specs.Str.{is_utf8}
-use Rattle.civil_base.specs.Instants.{local_at}
-use Rattle.civil_base.specs.Ranges.{is_in_years}
-use Rattle.zone_source.specs.Faults.{SourceFault, source_fault}
-use Rattle.zone_source.specs.Lines.{lines_of}
-use Rattle.zone_answers.specs.Found.{Cause, Found, Reading, found_in, to_2099}
-use Rattle.zone_answers.specs.Requests.{Request, at, local, name_of, request_of}
+use Rattle.std.specs.{Prelude.{◌≡◌, ℕ, suc, Bool, true, ◌&&◌, ℤ, List, [], ◌∷◌, Option, Some, None, option_map, Ok, Err, if◌then◌else◌}, Option.{option_or, option_map_or}, Str.{is_utf8}}
+use Rattle.civil_base.specs.{Instants.{local_at}, Ranges.{is_in_years}}
+use Rattle.zone_source.specs.{Faults.{SourceFault, source_fault}, Lines.{lines_of}}
+use Rattle.zone_answers.specs.{Found.{Cause, Found, Reading, found_in, to_2099}, Requests.{Request, at, local, name_of, request_of}}
 
 -- a fault of the source; a request that is no text, one in no form, one whose zone can't be asked, and one whose date leaves the
 -- years -9999 to 9999

@@ -3,9 +3,7 @@ use Rattle.std.specs.Prelude.{ℕ, ℤ, List, Result}
 use Rattle.zone_run.specs.Readings as zones
 pub use Rattle.zone_run.specs.Readings.{ZoneCause as Cause, unknown_zone, bad_schedule, offset_range, rules_end, found_under}
 unfoldable pub use Rattle.zone_run.specs.Readings.{found_in, given_to_2099}
-use Rattle.zone_spans.specs.Schedules.{total_at, totals_of}
-use Rattle.zone_spans.specs.declared.fault.SpanFault.{SpanFault}
-use Rattle.zone_spans.specs.declared.span.FixedTimespanSet.{FixedTimespanSet}
+use Rattle.zone_spans.specs.{Schedules.{total_at, totals_of}, declared.fault.SpanFault.{SpanFault}, declared.span.FixedTimespanSet.{FixedTimespanSet}}
 use Rattle.zone_table.specs.declared.table.Table.{Table}
 
 abbrev pub Found : Type 0

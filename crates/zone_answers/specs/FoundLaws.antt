@@ -1,18 +1,11 @@
 -- An error tells why the zone of a request can't be asked.
 use Rattle.std.proofs.Common.{◌≡◌, ◌≢◌, ℕ, ℤ, Option, Some, Result, refl}
-use Rattle.tz_zone.specs.Compiles.{IsZoneFault}
-use Rattle.tz_zone.specs.declared.compile.ZoneFault.{ZoneFault}
+use Rattle.tz_zone.specs.{Compiles.{IsZoneFault}, declared.compile.ZoneFault.{ZoneFault}}
 use Rattle.tz_zone.specs.declared.compile.ZoneFault.TheVariants as zone
-use Rattle.zone_run.specs.Readings.{Found}
-use Rattle.zone_run.specs.Responses.{TellsCause}
-use Rattle.zone_run.specs.declared.found.FindFault.TheVariants.{Zone}
-use Rattle.zone_spans.specs.declared.fault.SpanFault.{SpanFault}
+use Rattle.zone_run.specs.{Readings.{Found}, Responses.{TellsCause}, declared.found.FindFault.TheVariants.{Zone}}
+use Rattle.zone_spans.specs.declared.{fault.SpanFault.{SpanFault}, span.FixedTimespanSet.{FixedTimespanSet}}
 use Rattle.zone_spans.specs.declared.fault.SpanFault.TheVariants as span
-use Rattle.zone_spans.specs.declared.span.FixedTimespanSet.{FixedTimespanSet}
-use Rattle.zone_answers.specs.Faults.{zone_refusal}
-use Rattle.zone_answers.specs.Told.{span_told, RefusesZone, TellsReading}
-use Rattle.zone_answers.specs.declared.error.AnswerError.{AnswerError}
-use Rattle.zone_answers.specs.declared.error.ReadingError.TheVariants.{Answer}
+use Rattle.zone_answers.specs.{Faults.{zone_refusal}, Told.{span_told, RefusesZone, TellsReading}, declared.error.AnswerError.{AnswerError}, declared.error.ReadingError.TheVariants.{Answer}}
 
 span_is_told : (fault : SpanFault) → fault ≢ span.NoMemory → span_told fault ≡ Some fault
 span_is_told span.UnknownRuleset other = refl

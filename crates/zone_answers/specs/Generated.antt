@@ -1,14 +1,9 @@
 -- How a run over made texts ends.
 use Rattle.std.specs.Prelude.{◌≡◌, ◌≢◌, ◌⊎◌, ℕ, List, Option, None}
-use Rattle.zone_outside.specs.Outside.{Rose}
-use Rattle.zone_source.specs.Statuses.{EndsBy}
-use Rattle.zone_answers.specs.Faults.{Fault, fault}
-use Rattle.zone_answers.specs.Made.{made_source, made_requests}
-use Rattle.zone_outside.specs.Seen.{OutputSeen, Grew, GrewBySome}
-use Rattle.zone_source.specs.Runs.{Seen}
-use Rattle.zone_answers.specs.Summary.{due_summary}
-use Rattle.zone_source.specs.declared.running.Status.{Status}
+use Rattle.zone_outside.specs.{Outside.{Rose}, Seen.{OutputSeen, Grew, GrewBySome}}
+use Rattle.zone_source.specs.{Statuses.{EndsBy}, Runs.{Seen}, declared.running.Status.{Status}}
 use Rattle.zone_source.specs.declared.running.Status.TheVariants as status
+use Rattle.zone_answers.specs.{Faults.{Fault, fault}, Made.{made_source, made_requests}, Summary.{due_summary}}
 
 -- the first fault of the texts that are made from a number
 abbrev pub made_fault : ℕ → Option Fault

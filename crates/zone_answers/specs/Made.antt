@@ -1,6 +1,5 @@
 -- The two texts that are made from a number: a source of so many zones under two rules, and two requests for each zone.
-use Rattle.std.specs.Prelude.{ℕ, zero, suc, ◌*◌, ◌%◌, ◌^◌, List, [], ◌∷◌, ◌++◌, map, codes, decimal}
-use Rattle.std.specs.List.{flat_map}
+use Rattle.std.specs.{Prelude.{ℕ, zero, suc, ◌*◌, ◌%◌, ◌^◌, List, [], ◌∷◌, ◌++◌, map, codes, decimal}, List.{flat_map}}
 use Rattle.zone_source.specs.LineLists.{ended}
 
 -- 1, 2, 3 and so on, up to n

@@ -1,11 +1,7 @@
 -- The zones that were asked for so far.
-use Rattle.std.specs.FinMap.{get}
-use Rattle.std.specs.Prelude.{◌≡◌, IfSome, IsSomeAnd, ℕ, List, Ok, slice_get}
-use Rattle.zone_table.specs.BoundedTables.{IsBoundedTable}
-use Rattle.zone_table.specs.declared.table.Table.{Table}
-use Rattle.zone_answers.specs.Found.{found_in_table}
-use Rattle.zone_answers.specs.declared.opened.Zones.{Zones}
-use Rattle.zone_answers.specs.declared.opened.OpenedZone.{Ghosts}
+use Rattle.std.specs.{FinMap.{get}, Prelude.{◌≡◌, IfSome, IsSomeAnd, ℕ, List, Ok, slice_get}}
+use Rattle.zone_table.specs.{BoundedTables.{IsBoundedTable}, declared.table.Table.{Table}}
+use Rattle.zone_answers.specs.{Found.{found_in_table}, declared.opened.Zones.{Zones}, declared.opened.OpenedZone.{Ghosts}}
 
 -- the zone has the totals that the name finds in the table
 abbrev pub IsOpened : {Z : Type 0} → Ghosts Z → Table → List ℕ → Z → Type 0

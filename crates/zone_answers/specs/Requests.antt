@@ -1,10 +1,7 @@
 -- What a request line asks.
-use Rattle.std.specs.Prelude.{◌≡◌, ℕ, ℤ, Bool, ◌==◌, ◌&&◌, List, length, drop, Option, Some, None, option_map, pos, neg_ℤ, codes, bytes_eq, nat_lt, nat_le, if◌then◌else◌, slice_index}
-use Rattle.std.specs.Char.{is_digit}
-use Rattle.std.specs.List.{before_first, after_first, list_all}
-use Rattle.civil_base.specs.Layout.{local_text}
-use Rattle.civil_base.specs.LocalTimes.{local_time_in}
+use Rattle.std.specs.{Prelude.{◌≡◌, ℕ, ℤ, Bool, ◌==◌, ◌&&◌, List, length, drop, Option, Some, None, option_map, pos, neg_ℤ, codes, bytes_eq, nat_lt, nat_le, if◌then◌else◌, slice_index}, Char.{is_digit}, List.{before_first, after_first, list_all}}
 use Rattle.std.specs.Str.Parse.{digits_value}
+use Rattle.civil_base.specs.{Layout.{local_text}, LocalTimes.{local_time_in}}
 
 -- `at`: the local time of an instant in a zone; the zone's name, and nanoseconds from 1970-01-01 00:00:00 UTC.
 -- `local`: the instants that a zone reads as a local time; the name, and nanoseconds from the local 1970-01-01 00:00:00

@@ -1,17 +1,10 @@
 -- What was written of the due bytes.
 use Rattle.std.specs.Prelude.{◌≡◌, ℕ, List, ◌++◌, Option, IsSomeAnd, [], ◌∷◌}
-use Rattle.zone_source.specs.LineLists.{ended}
-use Rattle.zone_answers.specs.Due.{due_bytes_with}
+use Rattle.zone_source.specs.{LineLists.{ended}, declared.running.Answered.{Answered}, declared.running.Answered.TheVariants.{Done, Fault, Failed, NoMemory}}
+use Rattle.zone_answers.specs.{Due.{due_bytes_with}, FaultLines.{fault_line}, Found.{Reading}, Summary.{summary, due_summary_with}, declared.answering.Form.{Form}}
 use Rattle.zone_answers.specs.Faults as faults
-use Rattle.zone_answers.specs.FaultLines.{fault_line}
-use Rattle.zone_answers.specs.Found.{Reading}
-use Rattle.zone_answers.specs.Summary.{summary, due_summary_with}
-use Rattle.zone_outside.specs.Seen.{OutputSeen, Grew, GrewBySome}
-use Rattle.zone_outside.specs.Outside.{Rose}
-use Rattle.zone_source.specs.declared.running.Answered.{Answered}
-use Rattle.zone_source.specs.declared.running.Answered.TheVariants.{Done, Fault, Failed, NoMemory}
-use Rattle.zone_answers.specs.declared.answering.Form.{Form}
 use Rattle.zone_answers.specs.declared.answering.Form.TheVariants as form
+use Rattle.zone_outside.specs.{Seen.{OutputSeen, Grew, GrewBySome}, Outside.{Rose}}
 
 -- the bytes of the answers' lines in this form
 abbrev pub lines_in : Form → List (List ℕ) → List ℕ

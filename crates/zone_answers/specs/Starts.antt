@@ -1,10 +1,7 @@
 -- How the program ends that was started.
 use Rattle.std.specs.Prelude.{IfSome}
-use Rattle.zone_source.specs.Starts.{Run, Starts}
-use Rattle.zone_source.specs.declared.starting.Started.{Started}
-use Rattle.zone_answers.specs.Ends.{Ends}
-use Rattle.zone_answers.specs.Generated.{Generated}
-use Rattle.zone_answers.specs.Words.{count_of, task_of}
+use Rattle.zone_source.specs.{Starts.{Run, Starts}, declared.starting.Started.{Started}}
+use Rattle.zone_answers.specs.{Ends.{Ends}, Generated.{Generated}, Words.{count_of, task_of}}
 
 -- how its run ends: over a file, or over the texts made from a number
 abbrev pub answers_run : Run

@@ -1,11 +1,6 @@
 -- What is said of the answers in place of the answers themselves.
-use Rattle.std.specs.Prelude.{ℕ, List, [], ◌∷◌, ◌++◌, length, sum, codes, decimal}
-use Rattle.std.specs.List.{concat}
-use Rattle.std.specs.Option.{option_map_or}
-use Rattle.zone_answers.specs.Due.{answer_lines_with}
-use Rattle.zone_answers.specs.Faults.{fault_with}
-use Rattle.zone_answers.specs.Found.{Reading, to_2099}
-use Rattle.zone_answers.specs.FaultLines.{fault_line}
+use Rattle.std.specs.{Prelude.{ℕ, List, [], ◌∷◌, ◌++◌, length, sum, codes, decimal}, List.{concat}, Option.{option_map_or}}
+use Rattle.zone_answers.specs.{Due.{answer_lines_with}, Faults.{fault_with}, Found.{Reading, to_2099}, FaultLines.{fault_line}}
 
 -- `lines 2 bytes 78 sum 3783`: how many lines, how many bytes in them, and the sum of these
 unfoldable pub summary : List (List ℕ) → List ℕ

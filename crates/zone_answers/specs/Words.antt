@@ -1,6 +1,5 @@
 -- What the words of a run ask.
-use Rattle.std.specs.Prelude.{ℕ, List, [], ◌∷◌, map, String, string_bytes, Option, Some, None, option_map, bytes_eq, codes, if◌then◌else◌}
-use Rattle.std.specs.declared.alloc.Global.{Global}
+use Rattle.std.specs.{Prelude.{ℕ, List, [], ◌∷◌, map, String, string_bytes, Option, Some, None, option_map, bytes_eq, codes, if◌then◌else◌}, declared.alloc.Global.{Global}}
 use Rattle.zone_answers.specs.Counts.{count_in}
 
 -- to answer the requests of the input over the file of that name; to answer over the texts made from a number

@@ -1,25 +1,12 @@
 //! The answers to the requests over a source, and these written to an output.
-ghost use Rattle.std.specs.Prelude.{◌≡◌, ◌≤◌, ℤ, true, None, All, IfErr, IfOk, OnOk, length, map, OnErr};
-ghost use Rattle.std.specs.List.{flat_map};
-ghost use Rattle.zone_source.specs.Faults.{source_fault};
-ghost use Rattle.zone_source.specs.Lines.{lines_of};
-ghost use Rattle.zone_source.specs.Zones.{values_of};
-ghost use Rattle.zone_table.specs.BoundedTables.{IsBoundedTable};
-ghost use Rattle.zone_table.specs.Tables.{IsTableOf};
+ghost use Rattle.std.specs.{Prelude.{◌≡◌, ◌≤◌, ℤ, true, None, All, IfErr, IfOk, OnOk, length, map, OnErr}, List.{flat_map}};
+ghost use Rattle.zone_source.specs.{Faults.{source_fault}, Lines.{lines_of}, Zones.{values_of}, Responses.{Responds}};
+ghost use Rattle.zone_table.specs.{BoundedTables.{IsBoundedTable}, Tables.{IsTableOf}};
 ghost use Rattle.civil_base.specs.Ranges.{IsOffset};
-ghost use Rattle.zone_answers.specs.Asked.{asked};
-ghost use Rattle.zone_answers.specs.Due.{answer_line, answer_lines, answer_lines_with, answer_text, shown, shown_at, shown_for, shown_with};
-ghost use Rattle.zone_answers.specs.Faults.{IsValid, IsValidWith, dates_refusal, fault, fault_with, first_refused, has_dates, request_refusal, source_refusal};
-ghost use Rattle.zone_answers.specs.Found.{found_in_table};
-ghost use Rattle.zone_answers.specs.Opened.{table_of, AreOpened};
-ghost use Rattle.zone_answers.specs.ReadBack.{IsReadBack};
-ghost use Rattle.zone_answers.specs.Requests.{IsSpelled};
-ghost use Rattle.zone_answers.specs.Told.{TellsOf, TellsReading, reading_told};
-ghost use Rattle.zone_answers.specs.Ends.{writes_with};
-ghost use Rattle.zone_answers.specs.Responses.{RespondsError, due_in, lines_in};
-ghost use Rattle.zone_source.specs.Responses.{Responds};
-ghost use Rattle.zone_outside.specs.Outside.{Rose};
-ghost use Rattle.zone_outside.specs.Seen.{Grew, GrewBySome, output_seen};
+ghost use Rattle.zone_answers.specs.{Asked.{asked}, Due.{answer_line, answer_lines, answer_lines_with, answer_text, shown, shown_at, shown_for, shown_with}};
+ghost use Rattle.zone_answers.specs.{Faults.{IsValid, IsValidWith, dates_refusal, fault, fault_with, first_refused, has_dates, request_refusal, source_refusal}, Found.{found_in_table}, Opened.{table_of, AreOpened}, ReadBack.{IsReadBack}, Requests.{IsSpelled}};
+ghost use Rattle.zone_answers.specs.{Told.{TellsOf, TellsReading, reading_told}, Ends.{writes_with}, Responses.{RespondsError, due_in, lines_in}};
+ghost use Rattle.zone_outside.specs.{Outside.{Rose}, Seen.{Grew, GrewBySome, output_seen}};
 
 use crate::error::{AnswerError, ReadingError, Side};
 use crate::fault::write_reading_fault;
@@ -195,9 +182,8 @@ impl<'p, Z> SourceAnswers<'p, Z> {
 }
 
 impl<Z: OpenedZone> TextAnswers for SourceAnswers<'_, Z> {
-    ghost use Rattle.zone_answers.specs.Due.{due_bytes_with};
+    ghost use Rattle.zone_answers.specs.{Due.{due_bytes_with}, Ends.{writes_with}};
     ghost use Rattle.zone_answers.specs.EndLaws as laws;
-    ghost use Rattle.zone_answers.specs.Ends.{writes_with};
 
     ghost writes = { λ _. writes_with Z.read (due_bytes_with Z.read) };
 

@@ -106,8 +106,7 @@ pub enum ReadingError {
 
 impl From<AllocError> for ReadingError {
     ghost use Rattle.std.specs.Prelude.{◌≡◌};
-    ghost use Rattle.zone_answers.specs.declared.error.AnswerError.TheVariants.{NoMemory};
-    ghost use Rattle.zone_answers.specs.declared.error.ReadingError.TheVariants.{Answer};
+    ghost use Rattle.zone_answers.specs.declared.error.{AnswerError.TheVariants.{NoMemory}, ReadingError.TheVariants.{Answer}};
 
     ghost from_gives = { λ _ error. error ≡ Answer NoMemory };
 

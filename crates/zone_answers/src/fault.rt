@@ -1,8 +1,7 @@
 //! The line that tells a fault.
 ghost use Rattle.std.specs.Prelude.{◌≡◌, ◌+◌, ◌≤◌, [], ◌∷◌, ◌++◌, length, take, IsSome, IfSome};
 ghost use Rattle.zone_source.specs.FaultLines.{line_shown, IsShort};
-ghost use Rattle.zone_answers.specs.FaultLines.{fault_line, request_line};
-ghost use Rattle.zone_answers.specs.Told.{fault_told, reading_told};
+ghost use Rattle.zone_answers.specs.{FaultLines.{fault_line, request_line}, Told.{fault_told, reading_told}};
 
 use crate::error::{AnswerError, ReadingError, Side};
 use zone_source::{FaultText, write_fault_line};

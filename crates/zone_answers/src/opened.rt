@@ -1,14 +1,8 @@
 //! Zones that requests name, each opened once and kept.
 ghost use Rattle.std.specs.Prelude.{◌≡◌, ◌++◌, ℤ, IfErr, IfOk, IsTrue, Ok};
 ghost use Rattle.civil_base.specs.Ranges.{IsOffset};
-ghost use Rattle.zone_table.specs.BoundedTables.{IsBoundedTable};
-ghost use Rattle.zone_table.specs.Resolved.{resolved_in};
-ghost use Rattle.zone_answers.specs.Asked.{asked};
-ghost use Rattle.zone_answers.specs.Due.{answer_text, shown_at};
-ghost use Rattle.zone_answers.specs.Faults.{has_dates, zone_refusal};
-ghost use Rattle.zone_answers.specs.Found.{Reading, found_in_table};
-ghost use Rattle.zone_answers.specs.Requests.{IsSpelled};
-ghost use Rattle.zone_answers.specs.Told.{TellsReading};
+ghost use Rattle.zone_table.specs.{BoundedTables.{IsBoundedTable}, Resolved.{resolved_in}};
+ghost use Rattle.zone_answers.specs.{Asked.{asked}, Due.{answer_text, shown_at}, Faults.{has_dates, zone_refusal}, Found.{Reading, found_in_table}, Requests.{IsSpelled}, Told.{TellsReading}};
 
 use crate::error::ReadingError;
 use crate::request::Request;
@@ -84,10 +78,7 @@ struct Last<'r> {
 impl<'t, 'r, Z: OpenedZone> Zones<'t, 'r, Z> {
     ghost use Rattle.std.specs.Prelude.{◌≡◌, ◌<◌, IfErr, IfOk, IfSome, OnOk, Some, length, slice_get};
     ghost use Rattle.zone_table.specs.BoundedTables.{IsBoundedTable};
-    ghost use Rattle.zone_answers.specs.Faults.{zone_refusal};
-    ghost use Rattle.zone_answers.specs.Found.{found_in_table};
-    ghost use Rattle.zone_answers.specs.Opened.{table_of, AreOpened, IsOpened, IsPlaced};
-    ghost use Rattle.zone_answers.specs.Told.{TellsReading};
+    ghost use Rattle.zone_answers.specs.{Faults.{zone_refusal}, Found.{found_in_table}, Opened.{table_of, AreOpened, IsOpened, IsPlaced}, Told.{TellsReading}};
 
     /// No zone of this table was asked for yet.
     pub fn new(alloc: Global, table: &'t Table) -> Zones<'t, 'r, Z>

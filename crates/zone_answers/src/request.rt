@@ -1,10 +1,6 @@
 //! A request line.
-ghost use Rattle.std.specs.Prelude.{◌≡◌, ◌<◌, ◌≤◌, ◌^◌, true, IfSome, length, slice_index, take, option_map, if◌then◌else◌, pos, neg_ℤ};
-ghost use Rattle.std.specs.Str.Parse.{digits_value};
-ghost use Rattle.std.specs.Char.{is_digit};
-ghost use Rattle.std.specs.List.{before_first, after_first, list_all, position_or_len};
-ghost use Rattle.civil_base.specs.Layout.{local_text};
-ghost use Rattle.civil_base.specs.LocalTimes.{local_time_in};
+ghost use Rattle.std.specs.{Prelude.{◌≡◌, ◌<◌, ◌≤◌, ◌^◌, true, IfSome, length, slice_index, take, option_map, if◌then◌else◌, pos, neg_ℤ}, Str.Parse.{digits_value}, Char.{is_digit}, List.{before_first, after_first, list_all, position_or_len}};
+ghost use Rattle.civil_base.specs.{Layout.{local_text}, LocalTimes.{local_time_in}};
 ghost use Rattle.zone_answers.specs.Requests.{IsSpelled, request_of, request_with, nanoseconds_in, is_negative, is_number, is_space, name_of, without_minus};
 
 use civil_base::{PlainDateTime, read_local};

@@ -1,14 +1,8 @@
 //! What the words of a run ask, the top call, and the whole program.
 ghost use Rattle.std.specs.Prelude.{◌≡◌, ◌≢◌, ◌⊎◌, ◌↔◌, ◌<◌, ◌≤◌, ℕ, List, length, IfSome, IsNone, IsSome, Some, IsTrue, option_map};
-ghost use Rattle.zone_answers.specs.Ends.{Ends};
-ghost use Rattle.zone_source.specs.Runs.{run_seen};
-ghost use Rattle.zone_source.specs.Statuses.{EndsBy, IsPastLimit};
-ghost use Rattle.zone_answers.specs.Faults.{fault};
-ghost use Rattle.zone_answers.specs.Generated.{Generated, WritesMade, made_fault};
+ghost use Rattle.zone_answers.specs.{Ends.{Ends}, Faults.{fault}, Generated.{Generated, WritesMade, made_fault}, Words.{count_of, file_of, task_of, task_of_two}, Counts.{count_in, is_count}, Starts.{StartsAnswers}};
+ghost use Rattle.zone_source.specs.{Runs.{run_seen}, Statuses.{EndsBy, IsPastLimit}};
 ghost use Rattle.zone_outside.specs.Seen.{output_seen};
-ghost use Rattle.zone_answers.specs.Words.{count_of, file_of, task_of, task_of_two};
-ghost use Rattle.zone_answers.specs.Counts.{count_in, is_count};
-ghost use Rattle.zone_answers.specs.Starts.{StartsAnswers};
 
 use crate::answering::{Form, SourceAnswers, respond};
 use crate::made::{made_requests, made_source};

@@ -1,14 +1,8 @@
 //! The text that answers a request.
 ghost use Rattle.std.specs.Prelude.{◌≡◌, ◌++◌, ◌∷◌, [], ℤ, true, false, IfOk, IfNone, IfSome, IsTrue, OnErr, OnOk, length, take, ◌≤◌};
 ghost use Rattle.tz_lookup.specs.InForce.{all_in_force, in_force, shown_of};
-ghost use Rattle.civil_base.specs.DateTimes.{instant, offset_of};
-ghost use Rattle.civil_base.specs.Instants.{local_at};
-ghost use Rattle.civil_base.specs.Layout.{local_text};
-ghost use Rattle.civil_base.specs.Ranges.{IsOffset};
-ghost use Rattle.zone_answers.specs.Asked.{asked};
-ghost use Rattle.zone_answers.specs.Requests.{IsSpelled};
-ghost use Rattle.zone_answers.specs.Due.{answer_text, shown_at, text_shown};
-ghost use Rattle.zone_answers.specs.Faults.{are_in_years, has_dates};
+ghost use Rattle.civil_base.specs.{DateTimes.{instant, offset_of}, Instants.{local_at}, Layout.{local_text}, Ranges.{IsOffset}};
+ghost use Rattle.zone_answers.specs.{Asked.{asked}, Requests.{IsSpelled}, Due.{answer_text, shown_at, text_shown}, Faults.{are_in_years, has_dates}};
 
 use crate::request::Request;
 use civil_base::{OffsetDateTime, PlainDateTime, spaced_offset, write_local, write_zoned};

@@ -1,6 +1,5 @@
 //! A summary of the answers, in place of the answers themselves.
-ghost use Rattle.std.specs.Prelude.{◌≡◌, [], ◌∷◌, ◌++◌, length, sum};
-ghost use Rattle.std.specs.List.{concat};
+ghost use Rattle.std.specs.{Prelude.{◌≡◌, [], ◌∷◌, ◌++◌, length, sum}, List.{concat}};
 ghost use Rattle.zone_answers.specs.Summary.{summary};
 
 use arrayvec::ArrayString;

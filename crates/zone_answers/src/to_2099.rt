@@ -1,9 +1,7 @@
 //! Zones whose schedule ends with the year 2099.
 ghost use Rattle.std.specs.Prelude.{◌≡◌, IfErr, IfOk};
 ghost use Rattle.zone_table.specs.BoundedTables.{IsBoundedTable};
-ghost use Rattle.tz_lookup.specs.CompactShown.{seen};
-ghost use Rattle.tz_lookup.specs.Compiles.{compiled_in, IsCompiledAs, IsZoneFault};
-ghost use Rattle.tz_lookup.specs.Sets.{schedule_of, IsAccepted};
+ghost use Rattle.tz_lookup.specs.{CompactShown.{seen}, Compiles.{compiled_in, IsCompiledAs, IsZoneFault}, Sets.{schedule_of, IsAccepted}};
 
 use crate::error::{AnswerError, ReadingError};
 use crate::opened::OpenedZone;
@@ -42,8 +40,7 @@ fn compact(alloc: Global, set: &FixedTimespanSet) -> Result<CompactSet, AllocErr
 }
 
 impl OpenedZone for CompactSet {
-    ghost use Rattle.tz_lookup.specs.CompactShown.{seen};
-    ghost use Rattle.tz_lookup.specs.Sets.{schedule_of};
+    ghost use Rattle.tz_lookup.specs.{CompactShown.{seen}, Sets.{schedule_of}};
     ghost use Rattle.zone_answers.specs.Found.{to_2099};
     ghost use Rattle.zone_spans.specs.Schedules.{total_at};
 

@@ -1,25 +1,10 @@
 -- Answers over a source with one zone, which has no saving and lists four seconds.
-use Rattle.std.proofs.Common.{◌≡◌, refl, ap, arith, map, lit≤, ℕ, pos, List, [], ◌∷◌, ◌++◌, ◌&&◌, cond, filter, int_le, int_lt, Some, None}
-use Rattle.std.specs.Prelude.{Ok, Err, bytes_eq, codes}
-use Rattle.std.specs.Fmt.{digits}
-use Rattle.basics.specs.DateLaws.{year_of-day}
-use Rattle.basics.specs.Dates.{year_of}
-use Rattle.basics.specs.Days.{is_leap, days_in_year, days_in_month, days_after_zero, days_before_zero, year_start, days_through, days_into_year, day, IsCountedYear}
-use Rattle.basics.specs.SignedLaws.{signed}
-use Rattle.civil_base.specs.Instants.{seconds_of}
-use Rattle.civil_base.specs.Layout.{day_part}
-use Rattle.basics.specs.Numbers.{value_in}
-use Rattle.zone_command.specs.Answers.{lined, told}
-use Rattle.zone_command.specs.Named.{Found, named_in}
-use Rattle.zone_command.specs.Offsets.{two_in, size_in, offset_in}
-use Rattle.zone_command.specs.Replies.{list_lines, reply_of}
-use Rattle.zone_moments.specs.Written.{epoch_text, fraction_text, offset_shown}
-use Rattle.zone_moments.specs.declared.answer_form.AnswerForm.TheVariants.{Epoch}
-use Rattle.zone_replies.specs.Faults.{each_due}
-use Rattle.zone_replies.specs.Fixed.{fixed_view}
-use Rattle.zone_replies.specs.Lists.{change_due, list_due, sides_text}
-use Rattle.zone_replies.specs.Views.{ZoneView}
-use Rattle.zone_replies.specs.declared.fault.ReplyFault.TheVariants.{OutOfYears, Untold}
+use Rattle.std.{proofs.Common.{◌≡◌, refl, ap, arith, map, lit≤, ℕ, pos, List, [], ◌∷◌, ◌++◌, ◌&&◌, cond, filter, int_le, int_lt, Some, None}, specs.Prelude.{Ok, Err, bytes_eq, codes}, specs.Fmt.{digits}}
+use Rattle.basics.specs.{DateLaws.{year_of-day}, Dates.{year_of}, Days.{is_leap, days_in_year, days_in_month, days_after_zero, days_before_zero, year_start, days_through, days_into_year, day, IsCountedYear}, SignedLaws.{signed}, Numbers.{value_in}}
+use Rattle.civil_base.specs.{Instants.{seconds_of}, Layout.{day_part}}
+use Rattle.zone_command.specs.{Answers.{lined, told}, Named.{Found, named_in}, Offsets.{two_in, size_in, offset_in}, Replies.{list_lines, reply_of}}
+use Rattle.zone_moments.specs.{Written.{epoch_text, fraction_text, offset_shown}, declared.answer_form.AnswerForm.TheVariants.{Epoch}}
+use Rattle.zone_replies.specs.{Faults.{each_due}, Fixed.{fixed_view}, Lists.{change_due, list_due, sides_text}, Views.{ZoneView}, declared.fault.ReplyFault.TheVariants.{OutOfYears, Untold}}
 use Rattle.zone_words.specs.Tasks.{converted, list_changes}
 
 view : ZoneView

@@ -1,14 +1,8 @@
 -- Memory that runs out where a failure is told.
-use Rattle.std.proofs.Common.{◌≡◌, inl, inr, refl, Bool, true, false, List, ℕ, ℤ, Option, Some, None, Ok, Err}
-use Rattle.std.specs.Prelude.{IfSome, MatchOption}
-use Rattle.zone_command.specs.Bare.{bare}
-use Rattle.zone_command.specs.Due.{Answers, Makings}
-use Rattle.zone_command.specs.Ends.{InSeen, failed, IsBare, IsCause, IsFound, IsFoundOver, IsOver, IsOverAt, IsShort, ClockFailed, EnvironmentFailed}
-use Rattle.zone_command.specs.Failures.{Failure, no_memory}
-use Rattle.zone_command.specs.Times.{asks_now}
+use Rattle.std.{proofs.Common.{◌≡◌, inl, inr, refl, Bool, true, false, List, ℕ, ℤ, Option, Some, None, Ok, Err}, specs.Prelude.{IfSome, MatchOption}}
+use Rattle.zone_command.specs.{Bare.{bare}, Due.{Answers, Makings}, Ends.{InSeen, failed, IsBare, IsCause, IsFound, IsFoundOver, IsOver, IsOverAt, IsShort, ClockFailed, EnvironmentFailed}, Failures.{Failure, no_memory}, Times.{asks_now}}
 use Rattle.zone_outside.specs.Seen.{ShelfSeen}
-use Rattle.zone_words.specs.Faults.{Reading}
-use Rattle.zone_words.specs.Tasks.{WordsAsked}
+use Rattle.zone_words.specs.{Faults.{Reading}, Tasks.{WordsAsked}}
 
 -- over a file
 over : (due : Answers) (makes : Makings) (asked : WordsAsked) (at : ℤ) (file : List ℕ) (before now : ShelfSeen) (f : Failure)

@@ -1,12 +1,7 @@
 -- Answers: texts, or the words that tell why there is none.
-use Rattle.std.specs.Prelude.{◌≡◌, ℕ, List, Result, Ok, Err, Vec}
-use Rattle.std.specs.declared.alloc.Global.{Global}
-use Rattle.zone_command.specs.Due.{Due as Delivered}
-use Rattle.zone_replies.specs.Faults.{Due, IsFaultOf}
-use Rattle.zone_replies.specs.declared.fault.ReplyFault.{ReplyFault}
-use Rattle.zone_command.specs.Refusals.{fault_words, name_words, told_line}
-use Rattle.zone_command.specs.declared.source.Refusal.{Refusal}
-use Rattle.zone_command.specs.declared.source.Refusal.TheVariants.{Why, NoMemory}
+use Rattle.std.specs.{Prelude.{◌≡◌, ℕ, List, Result, Ok, Err, Vec}, declared.alloc.Global.{Global}}
+use Rattle.zone_command.specs.{Due.{Due as Delivered}, Refusals.{fault_words, name_words, told_line}, declared.source.Refusal.{Refusal}, declared.source.Refusal.TheVariants.{Why, NoMemory}}
+use Rattle.zone_replies.specs.{Faults.{Due, IsFaultOf}, declared.fault.ReplyFault.{ReplyFault}}
 
 abbrev pub Answer : Type 0
 Answer = Result (List ℕ) (List ℕ)

@@ -1,8 +1,6 @@
 -- What is told without a source.
-use Rattle.std.specs.Prelude.{ℕ, List, Option, Some, None}
-use Rattle.std.specs.Borrow.{Bor}
-use Rattle.zone_words.specs.Tasks.{TaskAsked, help, version}
-use Rattle.zone_words.specs.declared.command.Command.{Command}
+use Rattle.std.specs.{Prelude.{ℕ, List, Option, Some, None}, Borrow.{Bor}}
+use Rattle.zone_words.specs.{Tasks.{TaskAsked, help, version}, declared.command.Command.{Command}}
 use Rattle.zone_words.specs.declared.command.Command.TheVariants as command
 use Rattle.zone_command.specs.declared.help.TheConstants.{VERSION, HELP, HELP_AT, HELP_LOCAL, HELP_CONVERT, HELP_LIST, HELP_ALARM, HELP_NAMES, HELP_STREAM, HELP_LOG, HELP_TREE, HELP_FILE, HELP_STRING, HELP_CHART}
 

@@ -1,15 +1,8 @@
 -- What the code's results come to.
-use Rattle.std.specs.Prelude.{◌≡◌, ℕ, Result, Ok, Err, Vec}
-use Rattle.std.specs.declared.alloc.Global.{Global}
+use Rattle.std.specs.{Prelude.{◌≡◌, ℕ, Result, Ok, Err, Vec}, declared.alloc.Global.{Global}}
 use Rattle.zone_outside.specs.Exchanges.{ExchangeSeen}
-use Rattle.zone_pieces.specs.Filters.{Made}
-use Rattle.zone_pieces.specs.Runs.{Ends}
-use Rattle.zone_pieces.specs.declared.running.StreamEnd.{StreamEnd}
-use Rattle.zone_command.specs.Ends.{Outcome, answered, served, failed}
-use Rattle.zone_command.specs.FailureShown.{failure_shown}
-use Rattle.zone_command.specs.declared.failure.Failure.{Failure}
-use Rattle.zone_command.specs.declared.find.Found.{Found}
-use Rattle.zone_command.specs.declared.find.Found.TheVariants.{Text, Input}
+use Rattle.zone_pieces.specs.{Filters.{Made}, Runs.{Ends}, declared.running.StreamEnd.{StreamEnd}}
+use Rattle.zone_command.specs.{Ends.{Outcome, answered, served, failed}, FailureShown.{failure_shown}, declared.failure.Failure.{Failure}, declared.find.Found.{Found}, declared.find.Found.TheVariants.{Text, Input}}
 
 -- an outcome that this says, and what it did to the exchange
 abbrev pub Comes : (Outcome → Type 0) → ExchangeSeen → ExchangeSeen → Result Found Failure → Type 0

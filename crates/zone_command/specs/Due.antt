@@ -1,13 +1,9 @@
 -- What is due over the text of a source.
-use Rattle.std.specs.Prelude.{◌≡◌, ℕ, List, Result, Ok, Err, ℤ, Vec}
-use Rattle.std.specs.declared.alloc.Global.{Global}
+use Rattle.std.specs.{Prelude.{◌≡◌, ℕ, List, Result, Ok, Err, ℤ, Vec}, declared.alloc.Global.{Global}}
 use Rattle.zone_outside.specs.Exchanges.{ExchangeSeen}
-use Rattle.zone_pieces.specs.Filters.{Made}
-use Rattle.zone_pieces.specs.Runs.{Ends}
-use Rattle.zone_pieces.specs.declared.running.StreamEnd.{StreamEnd}
+use Rattle.zone_pieces.specs.{Filters.{Made}, Runs.{Ends}, declared.running.StreamEnd.{StreamEnd}}
 use Rattle.zone_words.specs.Tasks.{WordsAsked}
-use Rattle.zone_command.specs.declared.answerer.AnswerFault.{AnswerFault}
-use Rattle.zone_command.specs.declared.answerer.AnswerFault.TheVariants.{Line, NoMemory}
+use Rattle.zone_command.specs.declared.answerer.AnswerFault.{AnswerFault, TheVariants.{Line, NoMemory}}
 
 -- the answer, or the line that tells why there is none
 abbrev pub Due : Type 0

@@ -1,21 +1,12 @@
 -- How a run ended.
 use Rattle.std.specs.Prelude.{◌≡◌, ◌⊎◌, ◌≤◌, ℕ, Bool, true, false, List, [], Option, Some, None, Ok, Err, IfSome, IsErrAnd, IsOkAnd, MatchOption, ℤ, pos, unwrap_or, codes}
 use Rattle.civil_base.specs.Ranges.{is_in_years}
-use Rattle.zone_command.specs.Bare.{bare}
-use Rattle.zone_command.specs.Due.{Answers, Makings}
-use Rattle.zone_command.specs.Failures.{Failure, refuses, bad_words, clock_fails, environment_fails, file_fails, file_long, no_memory, errors_at, errors_of, status_at, status_of}
-use Rattle.zone_command.specs.Times.{asks_now}
-use Rattle.zone_outside.specs.Exchanges.{ExchangeSeen, Wrote, WrotePart}
-use Rattle.zone_outside.specs.Limit.{text_limit}
-use Rattle.zone_outside.specs.Outside.{Rose, TooMuch}
-use Rattle.zone_outside.specs.Seen.{ShelfSeen, OutputSeen, Grew, GrewBySome}
-use Rattle.zone_pieces.specs.Filters.{Made}
-use Rattle.zone_pieces.specs.Runs.{Ends}
-use Rattle.zone_pieces.specs.declared.running.StreamEnd.{StreamEnd}
+use Rattle.zone_command.specs.{Bare.{bare}, Due.{Answers, Makings}, Failures.{Failure, refuses, bad_words, clock_fails, environment_fails, file_fails, file_long, no_memory, errors_at, errors_of, status_at, status_of}, Times.{asks_now}}
+use Rattle.zone_outside.specs.{Exchanges.{ExchangeSeen, Wrote, WrotePart}, Limit.{text_limit}, Outside.{Rose, TooMuch}, Seen.{ShelfSeen, OutputSeen, Grew, GrewBySome}}
+use Rattle.zone_pieces.specs.{Filters.{Made}, Runs.{Ends}, declared.running.StreamEnd.{StreamEnd}}
 use Rattle.zone_source.specs.declared.running.Status.{Status}
 use Rattle.zone_source.specs.declared.running.Status.TheVariants as status
-use Rattle.zone_words.specs.Faults.{Reading}
-use Rattle.zone_words.specs.Tasks.{TaskAsked, WordsAsked, stream, log}
+use Rattle.zone_words.specs.{Faults.{Reading}, Tasks.{TaskAsked, WordsAsked, stream, log}}
 
 -- ---- what is read
 

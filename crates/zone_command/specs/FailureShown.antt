@@ -1,8 +1,7 @@
 -- What the code's failures show.
 use Rattle.std.specs.Prelude.{string_bytes}
 use Rattle.zone_words.specs.Told.{fault_shown}
-use Rattle.zone_command.specs.Failures.{Failure, refuses, bad_words, clock_fails, environment_fails, file_fails, file_long, no_memory}
-use Rattle.zone_command.specs.declared.failure.Failure.{Failure as Shown}
+use Rattle.zone_command.specs.{Failures.{Failure, refuses, bad_words, clock_fails, environment_fails, file_fails, file_long, no_memory}, declared.failure.Failure.{Failure as Shown}}
 use Rattle.zone_command.specs.declared.failure.Failure.TheVariants.{Refuses, BadWords, Clock, Environment, File, Long, NoMemory}
 
 abbrev pub failure_shown : Shown → Failure

@@ -1,11 +1,7 @@
 -- What is seen of a run: of the shelf, the clock and the environment, and of the exchange and standard error.
 use Rattle.zone_command.specs.Ends.{ClockSeen, EnvironmentSeen, InSeen, OutSeen, Seen}
-use Rattle.zone_outside.specs.Seen.{output_seen, shelf_seen}
-use Rattle.zone_outside.specs.declared.exchange.Exchange.{Ghosts as ExchangeOf}
-use Rattle.zone_outside.specs.declared.outside.Sink.{Ghosts as SinkOf}
-use Rattle.zone_outside.specs.declared.outside.Source.{Ghosts as SourceOf}
-use Rattle.zone_outside.specs.declared.surroundings.Environment.{Ghosts as EnvironmentOf}
-use Rattle.zone_outside.specs.declared.surroundings.WallClock.{Ghosts as ClockOf}
+use Rattle.zone_outside.specs.{Seen.{output_seen, shelf_seen}, declared.exchange.Exchange.{Ghosts as ExchangeOf}, declared.outside.Sink.{Ghosts as SinkOf}, declared.outside.Source.{Ghosts as SourceOf}}
+use Rattle.zone_outside.specs.declared.surroundings.{Environment.{Ghosts as EnvironmentOf}, WallClock.{Ghosts as ClockOf}}
 
 abbrev pub clock_seen : {K : Type 0} → ClockOf K → K → ClockSeen
 clock_seen of clock = record { told = of.told clock; faults = of.faults clock }

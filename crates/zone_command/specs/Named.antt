@@ -1,12 +1,7 @@
 -- Zones by their names: offsets, and what the source has.
-use Rattle.std.specs.Prelude.{ℕ, List, Result, Ok, Err}
-use Rattle.std.specs.Option.{option_map_or}
-use Rattle.zone_replies.specs.Fixed.{fixed_view}
-use Rattle.zone_replies.specs.Views.{ZoneView}
-use Rattle.zone_command.specs.Offsets.{offset_in}
-use Rattle.zone_command.specs.Refusals.{name_words}
-use Rattle.zone_command.specs.declared.named.NamedZone.{NamedZone}
-use Rattle.zone_command.specs.declared.named.NamedZone.TheVariants.{Fixed, Found as In}
+use Rattle.std.specs.{Prelude.{ℕ, List, Result, Ok, Err}, Option.{option_map_or}}
+use Rattle.zone_replies.specs.{Fixed.{fixed_view}, Views.{ZoneView}}
+use Rattle.zone_command.specs.{Offsets.{offset_in}, Refusals.{name_words}, declared.named.NamedZone.{NamedZone}, declared.named.NamedZone.TheVariants.{Fixed, Found as In}}
 
 -- what is seen of the zone that a name finds, or the words that tell why it finds none
 abbrev pub Found : Type 0

@@ -1,9 +1,7 @@
 -- Names that are offsets.
-use Rattle.std.specs.Prelude.{ℕ, ◌+◌, ◌*◌, Bool, true, false, ◌&&◌, List, length, Option, Some, None, option_map, option_and_then, nat_eq, nat_le, ℤ, bytes_eq, codes, if◌then◌else◌}
-use Rattle.std.specs.Option.{option_map_or}
+use Rattle.std.specs.{Prelude.{ℕ, ◌+◌, ◌*◌, Bool, true, false, ◌&&◌, List, length, Option, Some, None, option_map, option_and_then, nat_eq, nat_le, ℤ, bytes_eq, codes, if◌then◌else◌}, Option.{option_map_or}}
 use Rattle.civil_base.specs.Offsets.{signed_by}
-use Rattle.basics.specs.Marks.{after_mark, cut}
-use Rattle.basics.specs.Numbers.{is_numeral, value_in}
+use Rattle.basics.specs.{Marks.{after_mark, cut}, Numbers.{is_numeral, value_in}}
 
 abbrev pub at_most : ℕ → Option ℕ → Option ℕ
 at_most most (Some number) = if nat_le number most then Some number else None

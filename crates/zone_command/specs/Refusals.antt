@@ -1,9 +1,7 @@
 -- Why a source, a zone or a reply is refused, in words.
 use Rattle.std.specs.Prelude.{ℕ, List, [], ◌∷◌, ◌++◌, codes}
-use Rattle.zone_replies.specs.declared.fault.ReplyFault.{ReplyFault}
-use Rattle.zone_replies.specs.declared.fault.ReplyFault.TheVariants.{OutOfYears, Untold, NoMemory as NoRoom}
-use Rattle.zone_command.specs.declared.source.Refusal.{Refusal}
-use Rattle.zone_command.specs.declared.source.Refusal.TheVariants.{Why, NoMemory}
+use Rattle.zone_replies.specs.declared.fault.ReplyFault.{ReplyFault, TheVariants.{OutOfYears, Untold, NoMemory as NoRoom}}
+use Rattle.zone_command.specs.declared.source.Refusal.{Refusal, TheVariants.{Why, NoMemory}}
 
 -- the words are such; or memory ran out
 abbrev pub IsTold : (List ℕ → Type 0) → Refusal → Type 0

@@ -1,22 +1,10 @@
 -- What is due of words over zones.
 use Rattle.std.specs.Prelude.{◌≡◌, ◌⊎◌, ◌&&◌, ℕ, List, [], ◌∷◌, ◌++◌, map, Option, Result, Ok, Err, codes, decimal, int_lt, unwrap_or, ℤ, if◌then◌else◌}
 use Rattle.civil_base.specs.Ranges.{is_in_years}
-use Rattle.zone_command.specs.Answers.{Answer, OfName, told, lined, ◌>>=◌}
-use Rattle.zone_command.specs.Named.{Found, named_in}
-use Rattle.zone_command.specs.Refusals.{name_words, told_line}
-use Rattle.zone_displays.specs.Charts.{chart_due}
-use Rattle.zone_displays.specs.SeenZones.{Named}
-use Rattle.zone_command.specs.Due.{Answers, Due as Delivered}
+use Rattle.zone_command.specs.{Answers.{Answer, OfName, told, lined, ◌>>=◌}, Named.{Found, named_in}, Refusals.{name_words, told_line}, Due.{Answers, Due as Delivered}}
+use Rattle.zone_displays.specs.{Charts.{chart_due}, SeenZones.{Named}, SeenNames.{NameSeen}, Texts.{names_text}, Rings.{rings_due}}
 use Rattle.zone_moments.specs.declared.answer_form.AnswerForm.{AnswerForm}
-use Rattle.zone_replies.specs.Faults.{Due, behind, ended}
-use Rattle.zone_replies.specs.Instants.{line_due}
-use Rattle.zone_replies.specs.Lists.{list_due}
-use Rattle.zone_replies.specs.Readings.{convert_due}
-use Rattle.zone_replies.specs.Views.{ZoneView}
-use Rattle.zone_replies.specs.declared.fault.ReplyFault.TheVariants.{OutOfYears}
-use Rattle.zone_displays.specs.SeenNames.{NameSeen}
-use Rattle.zone_displays.specs.Texts.{names_text}
-use Rattle.zone_displays.specs.Rings.{rings_due}
+use Rattle.zone_replies.specs.{Faults.{Due, behind, ended}, Instants.{line_due}, Lists.{list_due}, Readings.{convert_due}, Views.{ZoneView}, declared.fault.ReplyFault.TheVariants.{OutOfYears}}
 use Rattle.zone_words.specs.Tasks.{TaskAsked, WordsAsked, at_instants, local_time, converted, list_changes, alarm, names, file, posix_string, tree, chart}
 
 -- a line for each instant, behind those that there are

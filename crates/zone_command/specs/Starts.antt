@@ -1,12 +1,7 @@
 -- How the command begins and ends.
-use Rattle.std.specs.Prelude.{◌≡◌, ◌⊎◌, ℕ, List, None, map, String, string_bytes}
-use Rattle.std.specs.Process.{exit_status}
-use Rattle.std.specs.declared.alloc.Global.{Global}
-use Rattle.zone_command.specs.Due.{Answers, Makings}
-use Rattle.zone_command.specs.Ends.{EndsZone, Seen}
-use Rattle.zone_command.specs.declared.starting.ZoneStarted.{ZoneStarted}
-use Rattle.zone_source.specs.Statuses.{code_of}
-use Rattle.zone_source.specs.declared.running.Status.{Status}
+use Rattle.std.specs.{Prelude.{◌≡◌, ◌⊎◌, ℕ, List, None, map, String, string_bytes}, Process.{exit_status}, declared.alloc.Global.{Global}}
+use Rattle.zone_command.specs.{Due.{Answers, Makings}, Ends.{EndsZone, Seen}, declared.starting.ZoneStarted.{ZoneStarted}}
+use Rattle.zone_source.specs.{Statuses.{code_of}, declared.running.Status.{Status}}
 use Rattle.zone_words.specs.Words.{words_in}
 
 -- the real files, clock, environment and streams, which tell no content, before anything has called them

@@ -1,6 +1,5 @@
 -- Whether words ask for the instant at which they are read.
-use Rattle.std.specs.Prelude.{Bool, false, ◌||◌, is_none}
-use Rattle.std.specs.List.{list_any}
+use Rattle.std.specs.{Prelude.{Bool, false, ◌||◌, is_none}, List.{list_any}}
 use Rattle.zone_words.specs.Tasks.{TaskAsked, at_instants, list_changes}
 
 abbrev pub asks_now : TaskAsked → Bool

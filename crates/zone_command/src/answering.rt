@@ -1,12 +1,9 @@
 //! What answers over a source.
 ghost use Rattle.std.specs.Prelude.{◌≡◌, ◌≤◌, length, [], map, option_map, Ok};
 ghost use Rattle.civil_base.specs.DateTimes.{instant};
-ghost use Rattle.zone_command.specs.Answers.{OfName, lined, told, IsAnswer, IsGiven};
-ghost use Rattle.zone_command.specs.Replies.{at_lines, convert_lines, instants_at, list_answer, on_zone, reply_of, IsDueOver, IsReplyTo};
-ghost use Rattle.zone_command.specs.Due.{IsDue};
+ghost use Rattle.zone_command.specs.{Answers.{OfName, lined, told, IsAnswer, IsGiven}, Replies.{at_lines, convert_lines, instants_at, list_answer, on_zone, reply_of, IsDueOver, IsReplyTo}, Due.{IsDue}};
 ghost use Rattle.zone_moments.specs.Shown.{asked as asked_of};
-ghost use Rattle.zone_displays.specs.Texts.{names_text};
-ghost use Rattle.zone_displays.specs.Rings.{rings_due};
+ghost use Rattle.zone_displays.specs.{Texts.{names_text}, Rings.{rings_due}};
 ghost use Rattle.zone_words.specs.TaskShown.{alarm_shown, task_shown, words_shown};
 
 use crate::AnswerFault;

@@ -1,7 +1,6 @@
 //! Replies and refusals, told of a name.
 ghost use Rattle.std.specs.Prelude.{◌≡◌};
-ghost use Rattle.zone_command.specs.Answers.{told, IsAnswer, IsReply};
-ghost use Rattle.zone_command.specs.Refusals.{fault_words, name_words, IsTold};
+ghost use Rattle.zone_command.specs.{Answers.{told, IsAnswer, IsReply}, Refusals.{fault_words, name_words, IsTold}};
 ghost use Rattle.zone_replies.specs.Faults.{Due};
 
 use crate::line::{fault_words, name_words};

@@ -1,11 +1,7 @@
 //! Pictures of zones.
 ghost use Rattle.std.specs.Prelude.{◌≡◌, ◌∷◌, ℕ, List, map, IfErr, IfOk, OnOk, Ok, Err};
-ghost use Rattle.zone_command.specs.Answers.{IsAnswer, IsReply};
-ghost use Rattle.zone_command.specs.Named.{named_view};
-ghost use Rattle.zone_command.specs.Refusals.{IsTold};
-ghost use Rattle.zone_command.specs.Replies.{behind_found, chart_answer, named_zones, IsStep};
-ghost use Rattle.zone_displays.specs.Charts.{chart_due};
-ghost use Rattle.zone_displays.specs.SeenZones.{Named, named};
+ghost use Rattle.zone_command.specs.{Answers.{IsAnswer, IsReply}, Named.{named_view}, Refusals.{IsTold}, Replies.{behind_found, chart_answer, named_zones, IsStep}};
+ghost use Rattle.zone_displays.specs.{Charts.{chart_due}, SeenZones.{Named, named}};
 ghost use Rattle.zone_words.specs.Shown.{word_shown};
 
 use crate::answers::told;

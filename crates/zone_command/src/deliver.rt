@@ -1,8 +1,6 @@
 //! What is written.
 ghost use Rattle.std.specs.Prelude.{◌⊎◌};
-ghost use Rattle.zone_command.specs.Ends.{IsEnded, IsFailed, IsTold, IsWritten};
-ghost use Rattle.zone_command.specs.FailureShown.{failure_shown};
-ghost use Rattle.zone_command.specs.Failures.{no_memory};
+ghost use Rattle.zone_command.specs.{Ends.{IsEnded, IsFailed, IsTold, IsWritten}, FailureShown.{failure_shown}, Failures.{no_memory}};
 ghost use Rattle.zone_outside.specs.Seen.{output_seen};
 
 use crate::failure::{Failure, line_at, line_of, status_at, status_of};

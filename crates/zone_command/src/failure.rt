@@ -1,7 +1,6 @@
 //! Why a run has no answer.
 ghost use Rattle.std.specs.Prelude.{◌≡◌, ◌++◌, ◌∷◌, [], IfOk};
-ghost use Rattle.zone_command.specs.Failures.{errors_at, errors_of, file_line, status_at, status_of};
-ghost use Rattle.zone_command.specs.FailureShown.{failure_shown};
+ghost use Rattle.zone_command.specs.{Failures.{errors_at, errors_of, file_line, status_at, status_of}, FailureShown.{failure_shown}};
 
 use std::alloc::{AllocError, Global};
 use zone_pieces::StreamEnd;

@@ -1,19 +1,10 @@
 //! What is due of words.
 ghost use Rattle.std.specs.Prelude.{◌≡◌, ◌⊎◌, ℕ, List, false, true, pos, map, None, option_map, string_bytes, IfOk, IfSome, IsErrOf, OnErr};
-ghost use Rattle.civil_base.specs.DateTimes.{instant};
-ghost use Rattle.civil_base.specs.Ranges.{is_in_years};
-ghost use Rattle.zone_outside.specs.Outside.{Rose};
-ghost use Rattle.zone_outside.specs.Seen.{shelf_seen};
-ghost use Rattle.zone_command.specs.Times.{asks_now};
-ghost use Rattle.zone_command.specs.Bare.{text_shown};
-ghost use Rattle.zone_command.specs.Comes.{Comes, ComesBy, ComesTo};
-ghost use Rattle.zone_command.specs.Due.{IsDue};
-ghost use Rattle.zone_command.specs.Ends.{IsAnswer, IsCause, IsFile, IsFound, IsFoundOver, IsOver, IsServing, MayBeRead, file_of, is_served};
-ghost use Rattle.zone_command.specs.FailureShown.{failure_shown};
-ghost use Rattle.zone_command.specs.Failures.{environment_fails, no_memory};
-ghost use Rattle.zone_command.specs.InSeen.{clock_seen, environment_seen, in_seen};
-ghost use Rattle.zone_words.specs.TaskShown.{task_shown, words_shown};
-ghost use Rattle.zone_words.specs.Words.{words_in};
+ghost use Rattle.civil_base.specs.{DateTimes.{instant}, Ranges.{is_in_years}};
+ghost use Rattle.zone_outside.specs.{Outside.{Rose}, Seen.{shelf_seen}};
+ghost use Rattle.zone_command.specs.{Times.{asks_now}, Bare.{text_shown}, Comes.{Comes, ComesBy, ComesTo}, Due.{IsDue}, Ends.{IsAnswer, IsCause, IsFile, IsFound, IsFoundOver, IsOver, IsServing, MayBeRead, file_of, is_served}, FailureShown.{failure_shown}};
+ghost use Rattle.zone_command.specs.{Failures.{environment_fails, no_memory}, InSeen.{clock_seen, environment_seen, in_seen}};
+ghost use Rattle.zone_words.specs.{TaskShown.{task_shown, words_shown}, Words.{words_in}};
 
 use crate::answerer::{AnswerFault, Answerer};
 use crate::failure::Failure;

@@ -1,7 +1,6 @@
 //! Zones by their names: offsets, and what the source has.
 ghost use Rattle.std.specs.Prelude.{◌≡◌, Err, IfErr, IfOk, Ok};
-ghost use Rattle.zone_command.specs.Named.{named_in, named_view};
-ghost use Rattle.zone_command.specs.Refusals.{IsTold};
+ghost use Rattle.zone_command.specs.{Named.{named_in, named_view}, Refusals.{IsTold}};
 
 use crate::answers::refusal_of;
 use crate::offset::offset_in;

@@ -3,8 +3,8 @@ ghost use Rattle.std.specs.Prelude.{◌≡◌, ◌≤◌, ◌<◌, IfSome, Some,
 ghost use Rattle.civil_base.specs.Offsets.{signed_by};
 ghost use Rattle.zone_command.specs.Offsets.{offset_in, sized_in, size_in, two_in};
 
-use civil_base::UtcOffset;
 use basics::{after_mark, cut, is_numeral, u8_of_digits};
+use civil_base::UtcOffset;
 
 /// The number of at most that size that two digits write.
 #[tactic(auto, unfolding(crate::specs::Offsets::two_in))]

@@ -1,9 +1,7 @@
 //! What is due of a task over zones.
 ghost use Rattle.std.specs.Prelude.{◌≡◌, [], map, is_some, IfOk, IfSome, Ok, Err};
-ghost use Rattle.civil_base.specs.DateTimes.{instant};
-ghost use Rattle.civil_base.specs.Ranges.{is_in_years};
-ghost use Rattle.zone_command.specs.Answers.{IsReply};
-ghost use Rattle.zone_command.specs.Replies.{at_lines, convert_lines, instant_at, instants_at, list_lines};
+ghost use Rattle.civil_base.specs.{DateTimes.{instant}, Ranges.{is_in_years}};
+ghost use Rattle.zone_command.specs.{Answers.{IsReply}, Replies.{at_lines, convert_lines, instant_at, instants_at, list_lines}};
 ghost use Rattle.zone_moments.specs.Shown.{asked as asked_of};
 ghost use Rattle.zone_displays.specs.Rings.{rings_due};
 ghost use Rattle.zone_words.specs.TaskShown.{alarm_shown};

@@ -1,7 +1,6 @@
 //! The run of the command.
 ghost use Rattle.std.specs.Prelude.{ℕ, List, map, string_bytes};
-ghost use Rattle.zone_command.specs.Ends.{EndsZone};
-ghost use Rattle.zone_command.specs.InSeen.{zone_seen};
+ghost use Rattle.zone_command.specs.{Ends.{EndsZone}, InSeen.{zone_seen}};
 ghost use Rattle.zone_words.specs.Words.{words_in};
 
 use crate::answerer::Answerer;

@@ -1,8 +1,6 @@
 //! What reads sources.
 ghost use Rattle.std.specs.Prelude.{◌≡◌, ℕ, List, ◌≤◌, length, map, Ok, Err, IfOk, IfErr};
-ghost use Rattle.zone_command.specs.Answers.{Answer, IsGiven};
-ghost use Rattle.zone_command.specs.Named.{Found};
-ghost use Rattle.zone_command.specs.Refusals.{IsTold};
+ghost use Rattle.zone_command.specs.{Answers.{Answer, IsGiven}, Named.{Found}, Refusals.{IsTold}};
 ghost use Rattle.zone_displays.specs.SeenNames.{NameSeen, name_seen};
 
 use std::alloc::{AllocError, Global};

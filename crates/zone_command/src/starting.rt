@@ -18,8 +18,7 @@ pub struct ZoneStarted {
 }
 
 impl Termination for ZoneStarted {
-    ghost use Rattle.std.specs.Prelude.{◌≡◌};
-    ghost use Rattle.std.specs.Process.{exit_status};
+    ghost use Rattle.std.specs.{Prelude.{◌≡◌}, Process.{exit_status}};
     ghost use Rattle.zone_command.specs.Starts.{exit_of};
 
     fn report<R: Eprint>(self, _rt: &R) -> ExitCode

@@ -1,6 +1,5 @@
 //! Whether words ask for the instant at which they are read.
-ghost use Rattle.std.specs.Prelude.{◌≡◌, is_none, map};
-ghost use Rattle.std.specs.List.{list_any};
+ghost use Rattle.std.specs.{Prelude.{◌≡◌, is_none, map}, List.{list_any}};
 ghost use Rattle.zone_command.specs.Times.{asks_now};
 ghost use Rattle.zone_moments.specs.Shown.{asked};
 ghost use Rattle.zone_words.specs.TaskShown.{task_shown};

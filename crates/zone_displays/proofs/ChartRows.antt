@@ -1,21 +1,9 @@
 -- Charts: worked rows, whose numbers and texts were worked out apart from the definitions.
-use Rattle.std.proofs.Common.{◌≡◌, refl, map, ℤ, pos, [], ◌∷◌, ◌++◌, ◌&&◌, if◌then◌else◌}
-use Rattle.std.specs.Prelude.{codes, neg_ℤ, int_le, int_lt, Ok, Err}
-use Rattle.std.specs.Fmt.{digits}
-use Rattle.std.specs.List.{filter}
+use Rattle.std.{proofs.Common.{◌≡◌, refl, map, ℤ, pos, [], ◌∷◌, ◌++◌, ◌&&◌, if◌then◌else◌}, specs.Prelude.{codes, neg_ℤ, int_le, int_lt, Ok, Err}, specs.Fmt.{digits}, specs.List.{filter}}
 use Rattle.basics.specs.Days.{day, days_after_zero, days_in_month, days_in_year, days_into_year, days_through, is_leap, year_start}
 use Rattle.zone_moments.specs.declared.answer_form.AnswerForm.TheVariants.{People}
-use Rattle.zone_replies.specs.Faults.{each_due}
-use Rattle.zone_replies.specs.Fixed.{fixed_view}
-use Rattle.zone_replies.specs.Lists.{change_due, sides_text}
-use Rattle.zone_replies.specs.Views.{InForce, ZoneView}
-use Rattle.zone_replies.specs.declared.fault.ReplyFault.TheVariants.{OutOfYears, Untold}
-use Rattle.zone_replies.specs.declared.kind.Kind.TheVariants.{Gap, Fold}
-use Rattle.zone_displays.specs.Axes.{hours_in, hours_of, month_begin, x_of, y_of}
-use Rattle.zone_displays.specs.Charts.{chart_due, grid_text, picture_due}
-use Rattle.zone_displays.specs.Escapes.{escaped_text}
-use Rattle.zone_displays.specs.Frames.{each_numbered}
-use Rattle.zone_displays.specs.Grids.{bottom_of, hour_mark, month_mark, hour_line, month_line, open_text, text_at}
+use Rattle.zone_replies.specs.{Faults.{each_due}, Fixed.{fixed_view}, Lists.{change_due, sides_text}, Views.{InForce, ZoneView}, declared.fault.ReplyFault.TheVariants.{OutOfYears, Untold}, declared.kind.Kind.TheVariants.{Gap, Fold}}
+use Rattle.zone_displays.specs.{Axes.{hours_in, hours_of, month_begin, x_of, y_of}, Charts.{chart_due, grid_text, picture_due}, Escapes.{escaped_text}, Frames.{each_numbered}, Grids.{bottom_of, hour_mark, month_mark, hour_line, month_line, open_text, text_at}}
 use Rattle.zone_displays.specs.Lines.{abbreviations, circle_text, colour, group_text, legend_line, legend_text, line_text, mark_due, place_text, step_points, step_text, zone_due}
 
 abbrev winter : InForce

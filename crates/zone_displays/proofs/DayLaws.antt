@@ -1,9 +1,6 @@
 -- The days of an alarm end where they should.
-use Rattle.std.proofs.Common.{◌≡◌, ℕ, ◌+◌, ◌-◌, ◌*◌, ◌/◌, ◌<◌, ◌≤◌, Bool, true, false, cond, ℤ, pos, ◌-ℤ◌, ◌≤ℤ◌, ◌<ℤ◌, int_lt, unsigned_abs, ap, refl, arith}
-use Rattle.std.specs.Prelude.{None}
-use Rattle.std.proofs.Math.Nat.{le-div_iff_mul-le}
-use Rattle.basics.specs.ComparisonLaws.{lt_fail, lt_from_fail}
-use Rattle.basics.specs.SignedLaws.{natural, signed}
+use Rattle.std.{proofs.Common.{◌≡◌, ℕ, ◌+◌, ◌-◌, ◌*◌, ◌/◌, ◌<◌, ◌≤◌, Bool, true, false, cond, ℤ, pos, ◌-ℤ◌, ◌≤ℤ◌, ◌<ℤ◌, int_lt, unsigned_abs, ap, refl, arith}, specs.Prelude.{None}, proofs.Math.Nat.{le-div_iff_mul-le}}
+use Rattle.basics.specs.{ComparisonLaws.{lt_fail, lt_from_fail}, SignedLaws.{natural, signed}}
 use Rattle.civil_base.specs.Ranges.{last_day}
 use Rattle.zone_displays.specs.Days.{count_between, day_after, last_of}
 

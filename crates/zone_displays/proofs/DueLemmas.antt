@@ -1,13 +1,8 @@
 -- Texts that are due between others, and one behind another.
-use Rattle.std.proofs.Common.{◌≡◌, ℕ, suc, ◌+◌, ◌<◌, ◌≤◌, List, [], ◌∷◌, ◌++◌, length, map, drop, slice_index_or, append_assoc, append-nil, ap, subst, sym, ◌∙◌, refl, arith}
-use Rattle.std.proofs.lemmas.List.{at_drop_more, at_drop_all}
-use Rattle.std.specs.Prelude.{Ok, Err}
-use Rattle.std.specs.Result.{result_unwrap_or}
-use Rattle.zone_replies.specs.Faults.{Due, behind, each_due, followed, IsFaultOf}
-use Rattle.zone_replies.specs.declared.fault.ReplyFault.{ReplyFault}
-use Rattle.zone_replies.specs.declared.fault.ReplyFault.TheVariants.{OutOfYears, Untold, NoMemory}
-use Rattle.zone_displays.specs.Escapes.{escaped_due, escaped_text}
-use Rattle.zone_displays.specs.Frames.{each_numbered, framed}
+use Rattle.std.proofs.{Common.{◌≡◌, ℕ, suc, ◌+◌, ◌<◌, ◌≤◌, List, [], ◌∷◌, ◌++◌, length, map, drop, slice_index_or, append_assoc, append-nil, ap, subst, sym, ◌∙◌, refl, arith}, lemmas.List.{at_drop_more, at_drop_all}}
+use Rattle.std.specs.{Prelude.{Ok, Err}, Result.{result_unwrap_or}}
+use Rattle.zone_replies.specs.{Faults.{Due, behind, each_due, followed, IsFaultOf}, declared.fault.ReplyFault.{ReplyFault}, declared.fault.ReplyFault.TheVariants.{OutOfYears, Untold, NoMemory}}
+use Rattle.zone_displays.specs.{Escapes.{escaped_due, escaped_text}, Frames.{each_numbered, framed}}
 
 -- what is due under another name
 pub moved : (d due : Due) → d ≡ due → (f : ReplyFault) → IsFaultOf d f → IsFaultOf due f

@@ -1,12 +1,7 @@
 -- Texts that are one edit apart, by their first bytes.
-use Rattle.std.proofs.Common.{◌≡◌, ℕ, zero, suc, ◌+◌, ◌-◌, ◌==◌, ◌≤◌, min, List, [], ◌∷◌, length, map, drop, take, Bool, ◌&&◌, ◌||◌, not, cond, true, false, refl, ap, sym, ◌∙◌, arith}
-use Rattle.std.proofs.lemmas.Bool.{and_parts, and_from, ne_eqb}
-use Rattle.std.proofs.lemmas.List.{take_rest}
-use Rattle.std.specs.Char.{eq_ignore_ascii_case}
-use Rattle.std.specs.List.{list_any, common_prefix_len}
-use Rattle.zone_displays.specs.Edits.{any_same, is_one_edit, is_one_less, is_one_other, is_one_swap, swapped, taken_out}
-use Rattle.zone_displays.specs.Fronts.{are_swapped_in_front, is_edit_in_front}
-use Rattle.zone_displays.specs.Same.{same}
+use Rattle.std.proofs.{Common.{◌≡◌, ℕ, zero, suc, ◌+◌, ◌-◌, ◌==◌, ◌≤◌, min, List, [], ◌∷◌, length, map, drop, take, Bool, ◌&&◌, ◌||◌, not, cond, true, false, refl, ap, sym, ◌∙◌, arith}, lemmas.Bool.{and_parts, and_from, ne_eqb}, lemmas.List.{take_rest}}
+use Rattle.std.specs.{Char.{eq_ignore_ascii_case}, List.{list_any, common_prefix_len}}
+use Rattle.zone_displays.specs.{Edits.{any_same, is_one_edit, is_one_less, is_one_other, is_one_swap, swapped, taken_out}, Fronts.{are_swapped_in_front, is_edit_in_front}, Same.{same}}
 use Rattle.zone_displays.proofs.SameLemmas.{byte_either, same_either, same_itself, same_through}
 
 shared : (b p q : Bool) → ((b && p) || (b && q)) ≡ (b && (p || q))

@@ -1,9 +1,6 @@
 -- Names and words.
-use Rattle.std.proofs.Common.{◌≡◌, ℕ, ◌+◌, ◌-◌, ◌<◌, ◌==◌, List, [], ◌∷◌, ◌++◌, length, map, take, drop, append_assoc, ◌||◌, false, refl, ap, sym, ◌∙◌}
-use Rattle.std.proofs.lemmas.List.{at_drop_more, map-append, take-map, take_rest}
-use Rattle.std.specs.Prelude.{codes}
-use Rattle.zone_displays.specs.Same.{begins_so, has_word}
-use Rattle.zone_displays.specs.Unknown.{choices_text, question_text}
+use Rattle.std.{proofs.Common.{◌≡◌, ℕ, ◌+◌, ◌-◌, ◌<◌, ◌==◌, List, [], ◌∷◌, ◌++◌, length, map, take, drop, append_assoc, ◌||◌, false, refl, ap, sym, ◌∙◌}, proofs.lemmas.List.{at_drop_more, map-append, take-map, take_rest}, specs.Prelude.{codes}}
+use Rattle.zone_displays.specs.{Same.{begins_so, has_word}, Unknown.{choices_text, question_text}}
 
 -- a text that doesn't begin with a word has it behind its first byte
 pub behind_byte : (text word : List ℕ) (n : ℕ) → n < length text → begins_so (take (length text - n) (drop n text)) word ≡ false

@@ -1,12 +1,7 @@
 -- Names that are listed and that are near: worked rows.
-use Rattle.std.proofs.Common.{◌≡◌, refl, map, ℕ, Bool, true, false, List, [], ◌∷◌, Option, Some, None}
-use Rattle.std.specs.Prelude.{codes}
+use Rattle.std.{proofs.Common.{◌≡◌, refl, map, ℕ, Bool, true, false, List, [], ◌∷◌, Option, Some, None}, specs.Prelude.{codes}}
 use Rattle.zone_moments.specs.declared.answer_form.AnswerForm.TheVariants.{People, Rfc3339, Epoch, Json}
-use Rattle.zone_displays.specs.Edits.{is_one_edit}
-use Rattle.zone_displays.specs.Near.{near_names}
-use Rattle.zone_displays.specs.SeenNames.{NameSeen}
-use Rattle.zone_displays.specs.Texts.{name_object, names_text}
-use Rattle.zone_displays.specs.Unknown.{unknown_text}
+use Rattle.zone_displays.specs.{Edits.{is_one_edit}, Near.{near_names}, SeenNames.{NameSeen}, Texts.{name_object, names_text}, Unknown.{unknown_text}}
 use Rattle.zone_replies.specs.Objects.{quoted}
 
 abbrev zone : List ℕ → NameSeen

@@ -1,9 +1,6 @@
 -- Texts of numbers and of items in a row.
-use Rattle.std.proofs.Common.{◌≡◌, ℕ, ◌+◌, ◌<◌, ◌≤◌, List, [], ◌∷◌, ◌++◌, length, map, map-id, slice_index_or, take, append_assoc, append-nil, ℤ, pos, to_z, of_z, to_z-of_z, FitsSigned, w64, ap, sym, ◌∙◌}
-use Rattle.std.proofs.lemmas.Grind.{flat_map-append}
-use Rattle.std.proofs.lemmas.List.FromFn.{map-range_with_len_more}
-use Rattle.std.proofs.lemmas.List.{map-append, take_all, take_more}
-use Rattle.std.proofs.lemmas.List.Sums.{fold-append}
+use Rattle.std.proofs.{Common.{◌≡◌, ℕ, ◌+◌, ◌<◌, ◌≤◌, List, [], ◌∷◌, ◌++◌, length, map, map-id, slice_index_or, take, append_assoc, append-nil, ℤ, pos, to_z, of_z, to_z-of_z, FitsSigned, w64, ap, sym, ◌∙◌}, lemmas.Grind.{flat_map-append}}
+use Rattle.std.proofs.lemmas.List.{FromFn.{map-range_with_len_more}, map-append, take_all, take_more, Sums.{fold-append}}
 use Rattle.std.specs.List.{flat_map, fold, range_with_len}
 
 -- a text of one more

@@ -1,29 +1,12 @@
 -- Alarms at half past two in Berlin in 2024, as Python's `zoneinfo` has their instants.
 use Rattle.std.proofs.Common.{◌≡◌, refl, ap, ◌∙◌, arith, Bool, true, false, not, lit≤, ◌++◌, ◌∷◌, [], List, ℕ, ℤ, map, pos, filter, int_le, int_lt, ◌&&◌, ◌+ℤ◌, ◌-ℤ◌, ◌*ℤ◌, cond, Option, Ok, Err, Some, None}
-use Rattle.std.specs.Prelude.{codes}
-use Rattle.std.specs.Fmt.{digits}
-use Rattle.std.specs.Ordering.{int_eq}
-use Rattle.basics.specs.DateLaws.{year_of-day}
-use Rattle.basics.specs.Dates.{year_of}
-use Rattle.basics.specs.Days.{is_leap, days_in_year, days_in_month, days_after_zero, days_before_zero, year_start, days_through, days_into_year, day, IsCountedYear}
-use Rattle.basics.specs.SignedLaws.{signed}
-use Rattle.basics.specs.Weekdays.{weekday_of}
-use Rattle.civil_base.specs.Instants.{local_at, seconds_of}
-use Rattle.civil_base.specs.Layout.{day_part}
-use Rattle.civil_base.specs.Ranges.{is_in_years}
-use Rattle.zone_moments.specs.Written.{epoch_text, fraction_text}
-use Rattle.zone_moments.specs.declared.answer_form.AnswerForm.TheVariants.{Epoch}
-use Rattle.zone_replies.specs.Faults.{Due, each_due, followed}
-use Rattle.zone_replies.specs.Instants.{is_untold, line_due, shown_due}
-use Rattle.zone_replies.specs.Skips.{skipping}
-use Rattle.zone_replies.specs.Views.{InForce, ZoneView}
-use Rattle.zone_replies.specs.declared.fault.ReplyFault.TheVariants.{OutOfYears, Untold}
-use Rattle.zone_displays.specs.Days.{days_between, is_dated, is_on, last_of, step_of}
-use Rattle.zone_displays.specs.Rings.{by_fold, by_gap, counts, first_of, lines_on, rings_at, rings_due, rung_on, time_on}
-use Rattle.zone_displays.proofs.RungLemmas.{not_dated, not_on, not_told, told}
-use Rattle.zone_words.specs.Tasks.{AlarmAsked}
-use Rattle.zone_words.specs.declared.task.FoldRule.TheVariants.{First, Second, Both}
-use Rattle.zone_words.specs.declared.task.GapRule.TheVariants.{Skip, Before, After}
+use Rattle.std.specs.{Prelude.{codes}, Fmt.{digits}, Ordering.{int_eq}}
+use Rattle.basics.specs.{DateLaws.{year_of-day}, Dates.{year_of}, Days.{is_leap, days_in_year, days_in_month, days_after_zero, days_before_zero, year_start, days_through, days_into_year, day, IsCountedYear}, SignedLaws.{signed}, Weekdays.{weekday_of}}
+use Rattle.civil_base.specs.{Instants.{local_at, seconds_of}, Layout.{day_part}, Ranges.{is_in_years}}
+use Rattle.zone_moments.specs.{Written.{epoch_text, fraction_text}, declared.answer_form.AnswerForm.TheVariants.{Epoch}}
+use Rattle.zone_replies.specs.{Faults.{Due, each_due, followed}, Instants.{is_untold, line_due, shown_due}, Skips.{skipping}, Views.{InForce, ZoneView}, declared.fault.ReplyFault.TheVariants.{OutOfYears, Untold}}
+use Rattle.zone_displays.{specs.Days.{days_between, is_dated, is_on, last_of, step_of}, specs.Rings.{by_fold, by_gap, counts, first_of, lines_on, rings_at, rings_due, rung_on, time_on}, proofs.RungLemmas.{not_dated, not_on, not_told, told}}
+use Rattle.zone_words.specs.{Tasks.{AlarmAsked}, declared.task.FoldRule.TheVariants.{First, Second, Both}, declared.task.GapRule.TheVariants.{Skip, Before, After}}
 
 -- summer time from 2024-03-31 01:00 UTC up to 2024-10-27 01:00 UTC
 is_summer : ℤ → Bool

@@ -1,18 +1,10 @@
 -- What is due of the days of an alarm, one after another.
-use Rattle.std.proofs.Common.{◌≡◌, ℕ, zero, suc, ◌+◌, ◌-◌, ◌<◌, ◌≤◌, ◌==◌, length, Bool, true, false, not, cond, List, [], ◌∷◌, map, append-nil, ℤ, refl, ap, sym, ◌∙◌, arith}
-use Rattle.std.specs.Prelude.{Option, Some, None, Ok, Err}
-use Rattle.std.specs.List.{range_with_len}
-use Rattle.std.proofs.Math.Dec.{eqb-suc-zero}
+use Rattle.std.proofs.{Common.{◌≡◌, ℕ, zero, suc, ◌+◌, ◌-◌, ◌<◌, ◌≤◌, ◌==◌, length, Bool, true, false, not, cond, List, [], ◌∷◌, map, append-nil, ℤ, refl, ap, sym, ◌∙◌, arith}, Math.Dec.{eqb-suc-zero}}
+use Rattle.std.specs.{Prelude.{Option, Some, None, Ok, Err}, List.{range_with_len}}
 use Rattle.zone_moments.specs.declared.answer_form.AnswerForm.{AnswerForm}
-use Rattle.zone_replies.specs.DueLaws.{behind_err, first, moved, pass, stepped}
-use Rattle.zone_replies.specs.Faults.{Due, behind, each_due, followed, IsFaultOf}
-use Rattle.zone_replies.specs.Instants.{is_untold}
-use Rattle.zone_replies.specs.Views.{ZoneView}
-use Rattle.zone_replies.specs.declared.fault.ReplyFault.{ReplyFault}
+use Rattle.zone_replies.specs.{DueLaws.{behind_err, first, moved, pass, stepped}, Faults.{Due, behind, each_due, followed, IsFaultOf}, Instants.{is_untold}, Views.{ZoneView}, declared.fault.ReplyFault.{ReplyFault}}
 use Rattle.zone_replies.specs.declared.fault.ReplyFault.TheVariants.{OutOfYears, Untold}
-use Rattle.zone_displays.specs.Days.{day_after, is_dated, is_on}
-use Rattle.zone_displays.specs.Left.{is_full, left_after}
-use Rattle.zone_displays.specs.Rings.{Rung, counts, lines_due, lines_on, rings_at, rung_on, time_on}
+use Rattle.zone_displays.specs.{Days.{day_after, is_dated, is_on}, Left.{is_full, left_after}, Rings.{Rung, counts, lines_due, lines_on, rings_at, rung_on, time_on}}
 use Rattle.zone_words.specs.Tasks.{AlarmAsked}
 
 nothing_before : (d : Due) → d ≡ behind [] d

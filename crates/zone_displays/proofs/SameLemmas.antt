@@ -1,7 +1,5 @@
 -- Texts without regard to case.
-use Rattle.std.proofs.Common.{◌≡◌, ℕ, List, [], ◌∷◌, Bool, ◌&&◌, true, false, refl, sym, ◌∙◌}
-use Rattle.std.proofs.lemmas.Bool.{and_parts, and_from, eqb-true, eq-eqb}
-use Rattle.std.specs.Char.{eq_ignore_ascii_case, to_ascii_lowercase}
+use Rattle.std.{proofs.Common.{◌≡◌, ℕ, List, [], ◌∷◌, Bool, ◌&&◌, true, false, refl, sym, ◌∙◌}, proofs.lemmas.Bool.{and_parts, and_from, eqb-true, eq-eqb}, specs.Char.{eq_ignore_ascii_case, to_ascii_lowercase}}
 use Rattle.zone_displays.specs.Same.{same}
 
 pub byte_from : (x y : ℕ) → to_ascii_lowercase x ≡ to_ascii_lowercase y → eq_ignore_ascii_case x y ≡ true

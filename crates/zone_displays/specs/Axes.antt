@@ -1,10 +1,7 @@
 -- Where a chart shows a second and an offset.
-use Rattle.std.specs.Prelude.{ℕ, ◌+◌, ◌/◌, List, ◌∷◌, map, get_or, ℤ, pos, ◌+ℤ◌, ◌-ℤ◌, ◌*ℤ◌, unsigned_abs}
-use Rattle.std.specs.Int.{int_div_euclid, int_max, int_min}
-use Rattle.std.specs.List.{flat_map, fold}
+use Rattle.std.specs.{Prelude.{ℕ, ◌+◌, ◌/◌, List, ◌∷◌, map, get_or, ℤ, pos, ◌+ℤ◌, ◌-ℤ◌, ◌*ℤ◌, unsigned_abs}, Int.{int_div_euclid, int_max, int_min}, List.{flat_map, fold}}
 use Rattle.basics.specs.Days.{day}
-use Rattle.zone_replies.specs.Skips.{after_of}
-use Rattle.zone_replies.specs.Views.{ZoneView}
+use Rattle.zone_replies.specs.{Skips.{after_of}, Views.{ZoneView}}
 use Rattle.zone_displays.specs.SeenZones.{Named}
 
 -- the second at which a month of a year begins by UTC

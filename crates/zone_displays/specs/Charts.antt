@@ -1,13 +1,7 @@
 -- The chart of zones over a year.
-use Rattle.std.specs.Prelude.{ℕ, List, ◌++◌, codes, length, Bool, Err, ℤ, pos, int_lt, nat_lt, if◌then◌else◌}
-use Rattle.std.specs.List.{list_any}
-use Rattle.zone_replies.specs.Faults.{Due}
-use Rattle.zone_replies.specs.declared.fault.ReplyFault.TheVariants.{OutOfYears, Untold}
-use Rattle.zone_displays.specs.Axes.{hours_in}
-use Rattle.zone_displays.specs.Frames.{each_numbered, framed}
-use Rattle.zone_displays.specs.Grids.{bottom_of, hour_marks, month_marks, open_text}
-use Rattle.zone_displays.specs.Lines.{zone_due}
-use Rattle.zone_displays.specs.SeenZones.{Named}
+use Rattle.std.specs.{Prelude.{ℕ, List, ◌++◌, codes, length, Bool, Err, ℤ, pos, int_lt, nat_lt, if◌then◌else◌}, List.{list_any}}
+use Rattle.zone_replies.specs.{Faults.{Due}, declared.fault.ReplyFault.TheVariants.{OutOfYears, Untold}}
+use Rattle.zone_displays.specs.{Axes.{hours_in}, Frames.{each_numbered, framed}, Grids.{bottom_of, hour_marks, month_marks, open_text}, Lines.{zone_due}, SeenZones.{Named}}
 
 -- the head of the picture and its grid
 unfoldable pub grid_text : ℕ → ℤ → ℤ → ℕ → List ℕ

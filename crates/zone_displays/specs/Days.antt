@@ -1,6 +1,5 @@
 -- The days of an alarm.
-use Rattle.std.specs.Prelude.{ℕ, ◌+◌, ◌*◌, ◌/◌, ◌%◌, ◌==◌, Bool, false, ◌&&◌, List, map, Option, Some, None, slice_index_or, ℤ, pos, ◌+ℤ◌, ◌-ℤ◌, int_le, int_lt, unsigned_abs, if◌then◌else◌}
-use Rattle.std.specs.List.{range_with_len}
+use Rattle.std.specs.{Prelude.{ℕ, ◌+◌, ◌*◌, ◌/◌, ◌%◌, ◌==◌, Bool, false, ◌&&◌, List, map, Option, Some, None, slice_index_or, ℤ, pos, ◌+ℤ◌, ◌-ℤ◌, int_le, int_lt, unsigned_abs, if◌then◌else◌}, List.{range_with_len}}
 use Rattle.basics.specs.Weekdays.{weekday_of}
 use Rattle.civil_base.specs.Ranges.{first_day, last_day}
 use Rattle.zone_words.specs.Tasks.{AlarmAsked}

@@ -1,6 +1,5 @@
 -- Texts that are one edit apart.
-use Rattle.std.specs.Prelude.{ℕ, List, [], ◌∷◌, map, Bool, ◌&&◌, ◌||◌, false, not}
-use Rattle.std.specs.List.{list_any}
+use Rattle.std.specs.{Prelude.{ℕ, List, [], ◌∷◌, map, Bool, ◌&&◌, ◌||◌, false, not}, List.{list_any}}
 use Rattle.zone_displays.specs.Same.{same}
 
 -- a text with one byte taken out, for each of its bytes

@@ -1,6 +1,5 @@
 -- Texts within XML.
-use Rattle.std.specs.Prelude.{ℕ, ◌==◌, List, [], ◌∷◌, codes, Ok, Err, if◌then◌else◌}
-use Rattle.std.specs.List.{flat_map}
+use Rattle.std.specs.{Prelude.{ℕ, ◌==◌, List, [], ◌∷◌, codes, Ok, Err, if◌then◌else◌}, List.{flat_map}}
 use Rattle.zone_replies.specs.Faults.{Due}
 
 abbrev pub escaped : ℕ → List ℕ

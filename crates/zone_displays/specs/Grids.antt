@@ -1,7 +1,5 @@
 -- The first elements of a chart, and its grid.
-use Rattle.std.specs.Prelude.{ℕ, ◌+◌, ◌*◌, List, ◌++◌, codes, ℤ, pos, ◌-ℤ◌, unsigned_abs, decimal}
-use Rattle.std.specs.Fmt.{signed_decimal}
-use Rattle.std.specs.List.{flat_map, range_with_len}
+use Rattle.std.specs.{Prelude.{ℕ, ◌+◌, ◌*◌, List, ◌++◌, codes, ℤ, pos, ◌-ℤ◌, unsigned_abs, decimal}, Fmt.{signed_decimal}, List.{flat_map, range_with_len}}
 use Rattle.zone_displays.specs.Axes.{month_begin, x_of, year_begin}
 
 -- the edges of the plot on the right and below

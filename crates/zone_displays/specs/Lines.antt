@@ -1,19 +1,8 @@
 -- The line of a zone in a chart, with its changes and its legend.
-use Rattle.std.specs.Prelude.{ℕ, ◌+◌, ◌==◌, List, [], ◌++◌, codes, decimal, Ok, ℤ, if◌then◌else◌}
-use Rattle.std.specs.List.{flat_map}
+use Rattle.std.specs.{Prelude.{ℕ, ◌+◌, ◌==◌, List, [], ◌++◌, codes, decimal, Ok, ℤ, if◌then◌else◌}, List.{flat_map}}
 use Rattle.zone_moments.specs.declared.answer_form.AnswerForm.TheVariants.{People}
-use Rattle.zone_replies.specs.Faults.{Due, each_due}
-use Rattle.zone_replies.specs.Kinds.{kind_text}
-use Rattle.zone_replies.specs.Lists.{change_due, kind_between}
-use Rattle.zone_replies.specs.Skips.{after_of, before_of}
-use Rattle.zone_replies.specs.Views.{ZoneView}
-use Rattle.zone_replies.specs.declared.kind.Kind.{Kind}
-use Rattle.zone_replies.specs.declared.kind.Kind.TheVariants.{One, Gap, Fold, More}
-use Rattle.zone_displays.specs.Axes.{changes_in, x_of, y_of, year_begin}
-use Rattle.zone_displays.specs.Escapes.{escaped_due, escaped_text}
-use Rattle.zone_displays.specs.Frames.{framed}
-use Rattle.zone_displays.specs.Grids.{legend_place, right_of, text_at}
-use Rattle.zone_displays.specs.SeenZones.{Named}
+use Rattle.zone_replies.specs.{Faults.{Due, each_due}, Kinds.{kind_text}, Lists.{change_due, kind_between}, Skips.{after_of, before_of}, Views.{ZoneView}, declared.kind.Kind.{Kind}, declared.kind.Kind.TheVariants.{One, Gap, Fold, More}}
+use Rattle.zone_displays.specs.{Axes.{changes_in, x_of, y_of, year_begin}, Escapes.{escaped_due, escaped_text}, Frames.{framed}, Grids.{legend_place, right_of, text_at}, SeenZones.{Named}}
 
 -- the colours of Okabe and Ito, which people tell apart who see no red or no green
 unfoldable pub colour : ℕ → List ℕ

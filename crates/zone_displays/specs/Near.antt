@@ -1,9 +1,6 @@
 -- Names that someone meant by a word that is no name.
-use Rattle.std.specs.Prelude.{ℕ, ◌-◌, ◌==◌, List, ◌∷◌, ◌++◌, length, map, take, drop, Bool, ◌&&◌, ◌||◌, not}
-use Rattle.std.specs.List.{filter, list_any}
-use Rattle.zone_displays.specs.Edits.{is_one_edit}
-use Rattle.zone_displays.specs.Same.{same}
-use Rattle.zone_displays.specs.SeenNames.{NameSeen}
+use Rattle.std.specs.{Prelude.{ℕ, ◌-◌, ◌==◌, List, ◌∷◌, ◌++◌, length, map, take, drop, Bool, ◌&&◌, ◌||◌, not}, List.{filter, list_any}}
+use Rattle.zone_displays.specs.{Edits.{is_one_edit}, Same.{same}, SeenNames.{NameSeen}}
 
 abbrev pub has_slash : List ℕ → Bool
 has_slash text = list_any (λ byte. byte == 47) text

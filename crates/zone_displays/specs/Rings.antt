@@ -1,20 +1,10 @@
 -- When an alarm rings, and the lines that tell it.
 use Rattle.std.specs.Prelude.{ℕ, Bool, true, false, not, List, [], ◌∷◌, length, map, filter, take, drop, Option, Some, None, Result, Ok, Err, ℤ, pos, ◌+ℤ◌, ◌*ℤ◌, nat_lt, if◌then◌else◌}
-use Rattle.civil_base.specs.Clock.{nanos_per_day}
-use Rattle.civil_base.specs.Instants.{instant_at}
+use Rattle.civil_base.specs.{Clock.{nanos_per_day}, Instants.{instant_at}}
 use Rattle.zone_moments.specs.declared.answer_form.AnswerForm.{AnswerForm}
-use Rattle.zone_replies.specs.Faults.{Due, each_due}
-use Rattle.zone_replies.specs.Instants.{is_untold, line_due}
-use Rattle.zone_replies.specs.Skips.{after_of, before_of, skipping}
-use Rattle.zone_replies.specs.Views.{ZoneView}
-use Rattle.zone_replies.specs.declared.fault.ReplyFault.{ReplyFault}
-use Rattle.zone_replies.specs.declared.fault.ReplyFault.TheVariants.{OutOfYears, Untold}
+use Rattle.zone_replies.specs.{Faults.{Due, each_due}, Instants.{is_untold, line_due}, Skips.{after_of, before_of, skipping}, Views.{ZoneView}, declared.fault.ReplyFault.{ReplyFault}, declared.fault.ReplyFault.TheVariants.{OutOfYears, Untold}}
 use Rattle.zone_displays.specs.Days.{days_of, is_dated, is_on}
-use Rattle.zone_words.specs.Tasks.{AlarmAsked}
-use Rattle.zone_words.specs.declared.task.FoldRule.{FoldRule}
-use Rattle.zone_words.specs.declared.task.FoldRule.TheVariants.{First, Second, Both}
-use Rattle.zone_words.specs.declared.task.GapRule.{GapRule}
-use Rattle.zone_words.specs.declared.task.GapRule.TheVariants.{Skip, Before, After}
+use Rattle.zone_words.specs.{Tasks.{AlarmAsked}, declared.task.FoldRule.{FoldRule}, declared.task.FoldRule.TheVariants.{First, Second, Both}, declared.task.GapRule.{GapRule}, declared.task.GapRule.TheVariants.{Skip, Before, After}}
 
 -- the local time of a day at a time of day
 abbrev pub time_on : ℤ → ℕ → ℤ

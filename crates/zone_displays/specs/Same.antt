@@ -1,6 +1,5 @@
 -- Texts without regard to the case of ASCII letters.
-use Rattle.std.specs.Prelude.{ℕ, List, [], ◌∷◌, length, take, Bool, ◌||◌}
-use Rattle.std.specs.Str.{str_eq_ignore_ascii_case}
+use Rattle.std.specs.{Prelude.{ℕ, List, [], ◌∷◌, length, take, Bool, ◌||◌}, Str.{str_eq_ignore_ascii_case}}
 
 abbrev pub same : List ℕ → List ℕ → Bool
 same = str_eq_ignore_ascii_case

@@ -1,10 +1,7 @@
 -- Names as they are listed.
-use Rattle.std.specs.Prelude.{ℕ, List, [], ◌∷◌, ◌++◌, Option, Some, None, codes, Bool, true, if◌then◌else◌}
-use Rattle.std.specs.List.{flat_map}
-use Rattle.zone_moments.specs.declared.answer_form.AnswerForm.{AnswerForm}
-use Rattle.zone_moments.specs.declared.answer_form.AnswerForm.TheVariants.{People, Rfc3339, Epoch, Json}
-use Rattle.zone_displays.specs.Same.{has_word}
-use Rattle.zone_displays.specs.SeenNames.{NameSeen}
+use Rattle.std.specs.{Prelude.{ℕ, List, [], ◌∷◌, ◌++◌, Option, Some, None, codes, Bool, true, if◌then◌else◌}, List.{flat_map}}
+use Rattle.zone_moments.specs.declared.answer_form.AnswerForm.{AnswerForm, TheVariants.{People, Rfc3339, Epoch, Json}}
+use Rattle.zone_displays.specs.{Same.{has_word}, SeenNames.{NameSeen}}
 use Rattle.zone_replies.specs.Objects.{quoted}
 
 -- a name, and where it leads, as in `Arctic/Longyearbyen -> Europe/Berlin`

@@ -1,9 +1,7 @@
 //! Where a chart shows a second and an offset.
-ghost use Rattle.std.specs.Prelude.{◌≡◌, ◌≤◌, ◌+◌, get_or, map, pos, IfOk};
-ghost use Rattle.std.specs.List.{flat_map, fold};
+ghost use Rattle.std.specs.{Prelude.{◌≡◌, ◌≤◌, ◌+◌, get_or, map, pos, IfOk}, List.{flat_map, fold}};
 ghost use Rattle.zone_replies.specs.Skips.{after_of};
-ghost use Rattle.zone_displays.specs.Axes.{changes_in, hour_above, hour_below, hours_in, month_begin, offsets_in, widened, x_of, y_of, year_begin};
-ghost use Rattle.zone_displays.specs.SeenZones.{named};
+ghost use Rattle.zone_displays.specs.{Axes.{changes_in, hour_above, hour_below, hours_in, month_begin, offsets_in, widened, x_of, y_of, year_begin}, SeenZones.{named}};
 
 use crate::zone::ChartZone;
 use basics::day_number;

@@ -1,11 +1,7 @@
 //! The chart of zones over a year.
 ghost use Rattle.std.specs.Prelude.{◌≡◌, ◌≤◌, ◌<◌, length, map, IfErr, Ok, OnErr, OnOk};
 ghost use Rattle.zone_replies.specs.Faults.{behind, IsFaultOf};
-ghost use Rattle.zone_displays.specs.Charts.{are_untold, chart_due, picture_due};
-ghost use Rattle.zone_displays.specs.Frames.{each_numbered};
-ghost use Rattle.zone_displays.specs.Grids.{bottom_of};
-ghost use Rattle.zone_displays.specs.Lines.{zone_due};
-ghost use Rattle.zone_displays.specs.SeenZones.{named};
+ghost use Rattle.zone_displays.specs.{Charts.{are_untold, chart_due, picture_due}, Frames.{each_numbered}, Grids.{bottom_of}, Lines.{zone_due}, SeenZones.{named}};
 
 use crate::axes::{Frame, changes_in, frame_of};
 use crate::grid::add_grid;

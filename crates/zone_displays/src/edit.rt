@@ -1,10 +1,6 @@
 //! Texts that are one edit apart.
-ghost use Rattle.std.specs.Prelude.{◌≡◌, ◌≤◌, length};
-ghost use Rattle.std.specs.Char.{eq_ignore_ascii_case};
-ghost use Rattle.std.specs.List.{common_prefix_len};
-ghost use Rattle.zone_displays.specs.Edits.{is_one_edit};
-ghost use Rattle.zone_displays.specs.Fronts.{are_swapped_in_front, is_edit_in_front};
-ghost use Rattle.zone_displays.specs.Same.{same};
+ghost use Rattle.std.specs.{Prelude.{◌≡◌, ◌≤◌, length}, Char.{eq_ignore_ascii_case}, List.{common_prefix_len}};
+ghost use Rattle.zone_displays.specs.{Edits.{is_one_edit}, Fronts.{are_swapped_in_front, is_edit_in_front}, Same.{same}};
 
 /// Whether texts are the same but for the case of ASCII letters.
 pub(crate) fn same(a: &[u8], b: &[u8]) -> bool

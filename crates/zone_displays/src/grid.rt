@@ -1,8 +1,6 @@
 //! The first elements of a chart, and its grid.
-ghost use Rattle.std.specs.Prelude.{◌≡◌, ◌++◌, ◌≤◌, ◌+◌, ◌*◌, ◌-ℤ◌, pos, decimal, OnOk};
-ghost use Rattle.std.specs.Fmt.{signed_decimal};
-ghost use Rattle.zone_displays.specs.Charts.{grid_text};
-ghost use Rattle.zone_displays.specs.Grids.{bottom_of, hour_line, hour_mark, hour_marks, legend_place, month_line, month_mark, month_marks, open_text, right_of, text_at};
+ghost use Rattle.std.specs.{Prelude.{◌≡◌, ◌++◌, ◌≤◌, ◌+◌, ◌*◌, ◌-ℤ◌, pos, decimal, OnOk}, Fmt.{signed_decimal}};
+ghost use Rattle.zone_displays.specs.{Charts.{grid_text}, Grids.{bottom_of, hour_line, hour_mark, hour_marks, legend_place, month_line, month_mark, month_marks, open_text, right_of, text_at}};
 
 use crate::axes::{Frame, month_begin, x_of};
 use itoa::Buffer;

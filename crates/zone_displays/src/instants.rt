@@ -1,7 +1,6 @@
 //! The instants at which an alarm rings that is set to a local time.
 ghost use Rattle.std.specs.Prelude.{◌≡◌, [], ◌∷◌, map, IfOk};
-ghost use Rattle.civil_base.specs.DateTimes.{instant};
-ghost use Rattle.civil_base.specs.Instants.{instant_at};
+ghost use Rattle.civil_base.specs.{DateTimes.{instant}, Instants.{instant_at}};
 ghost use Rattle.zone_replies.specs.Skips.{after_of, before_of, skipping};
 ghost use Rattle.zone_displays.specs.Rings.{by_fold, by_gap, by_offset, rings_at, second_of};
 ghost use Rattle.zone_words.specs.declared.task.FoldRule.TheVariants.{First};

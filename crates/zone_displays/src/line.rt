@@ -1,10 +1,6 @@
 //! The line of a zone in a chart, with its changes and its legend.
-ghost use Rattle.std.specs.Prelude.{◌≡◌, ◌++◌, ◌≤◌, codes, IfOk, OnOk};
-ghost use Rattle.std.specs.List.{flat_map};
-ghost use Rattle.zone_displays.specs.Axes.{changes_in};
-ghost use Rattle.zone_displays.specs.Grids.{bottom_of};
-ghost use Rattle.zone_displays.specs.Lines.{abbreviations, colour, group_text, legend_line, legend_text, line_text, step_points, step_text};
-ghost use Rattle.zone_displays.specs.SeenZones.{named};
+ghost use Rattle.std.specs.{Prelude.{◌≡◌, ◌++◌, ◌≤◌, codes, IfOk, OnOk}, List.{flat_map}};
+ghost use Rattle.zone_displays.specs.{Axes.{changes_in}, Grids.{bottom_of}, Lines.{abbreviations, colour, group_text, legend_line, legend_text, line_text, step_points, step_text}, SeenZones.{named}};
 
 use crate::axes::{Frame, month_begin, x_of, y_at};
 use crate::escape::add_escaped;

@@ -1,11 +1,8 @@
 //! The lines of an alarm's rings.
 ghost use Rattle.std.specs.Prelude.{◌≡◌, ◌<◌, true, map, IfErr, IfOk, Ok, OnErr, OnOk};
 ghost use Rattle.civil_base.specs.DateTimes.{instant};
-ghost use Rattle.zone_replies.specs.Faults.{behind, each_due, IsFaultOf};
-ghost use Rattle.zone_displays.specs.Days.{day_after, is_dated, step_of};
-ghost use Rattle.zone_displays.specs.Left.{is_full, left_after};
-ghost use Rattle.zone_replies.specs.Instants.{line_due};
-ghost use Rattle.zone_displays.specs.Rings.{counts, lines_due, rings_due, rung_on};
+ghost use Rattle.zone_replies.specs.{Faults.{behind, each_due, IsFaultOf}, Instants.{line_due}};
+ghost use Rattle.zone_displays.specs.{Days.{day_after, is_dated, step_of}, Left.{is_full, left_after}, Rings.{counts, lines_due, rings_due, rung_on}};
 ghost use Rattle.zone_words.specs.TaskShown.{alarm_shown};
 
 use crate::days::{count_between, day_after, is_on, step_of};

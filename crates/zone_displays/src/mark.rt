@@ -1,10 +1,8 @@
 //! The marks of changes in a chart.
 ghost use Rattle.std.specs.Prelude.{◌≡◌, ◌++◌, ◌≤◌, [], IfErr, Ok, OnOk};
 ghost use Rattle.zone_moments.specs.declared.answer_form.AnswerForm.TheVariants.{People};
-ghost use Rattle.zone_replies.specs.Faults.{behind, each_due, IsFaultOf};
-ghost use Rattle.zone_replies.specs.Lists.{change_due};
-ghost use Rattle.zone_displays.specs.Escapes.{escaped_due};
-ghost use Rattle.zone_displays.specs.Lines.{circle_text, mark_due, place_text, titled_due};
+ghost use Rattle.zone_replies.specs.{Faults.{behind, each_due, IsFaultOf}, Lists.{change_due}};
+ghost use Rattle.zone_displays.specs.{Escapes.{escaped_due}, Lines.{circle_text, mark_due, place_text, titled_due}};
 
 use crate::axes::{Frame, x_of, y_at};
 use crate::escape::add_escaped;

@@ -1,7 +1,6 @@
 //! Names that someone meant by a word that is no name.
 ghost use Rattle.std.specs.Prelude.{◌≡◌, ◌++◌, ◌∷◌, [], map, IfOk, OnOk};
-ghost use Rattle.zone_displays.specs.Near.{has_slash, is_alike, is_last_part, near_names};
-ghost use Rattle.zone_displays.specs.SeenNames.{name_seen};
+ghost use Rattle.zone_displays.specs.{Near.{has_slash, is_alike, is_last_part, near_names}, SeenNames.{name_seen}};
 
 use crate::edit::{is_one_edit, same};
 use crate::entry::NameEntry;

@@ -1,9 +1,6 @@
 //! Names as they are listed.
-ghost use Rattle.std.specs.Prelude.{◌≡◌, ◌++◌, map, option_map, OnErr, OnOk};
-ghost use Rattle.std.specs.List.{flat_map};
-ghost use Rattle.zone_displays.specs.Same.{begins_so, has_word};
-ghost use Rattle.zone_displays.specs.SeenNames.{name_seen};
-ghost use Rattle.zone_displays.specs.Texts.{entry_text, is_asked, line_text, name_object, names_text, plain_text, zone_member};
+ghost use Rattle.std.specs.{Prelude.{◌≡◌, ◌++◌, map, option_map, OnErr, OnOk}, List.{flat_map}};
+ghost use Rattle.zone_displays.specs.{Same.{begins_so, has_word}, SeenNames.{name_seen}, Texts.{entry_text, is_asked, line_text, name_object, names_text, plain_text, zone_member}};
 
 use crate::edit::same;
 use crate::entry::NameEntry;

@@ -1,24 +1,12 @@
 -- A daily alarm to the year 9999 rings by the entries up to 10501 as by the totals for ever.
-use Rattle.std.proofs.Common.{◌≡◌, ℕ, zero, suc, ◌+◌, ◌-◌, ◌<◌, Bool, true, false, cond, ◌||◌, nat_eq, ◌∷◌, map, Some, None, Result, Ok, Err, Vec, ℤ, pos, ◌+ℤ◌, ◌≤ℤ◌, ◌<ℤ◌, int_le, refl, sym, ap, ◌∙◌, arith}
-use Rattle.std.specs.Prelude.{codes}
-use Rattle.std.specs.List.{range_with_len, slice_get}
-use Rattle.std.specs.declared.alloc.Global.{Global}
-use Rattle.std.proofs.lemmas.Bool.Decides.{nat_tests}
-use Rattle.basics.specs.ComparisonLaws.{le_from_pass}
-use Rattle.basics.specs.SignedLaws.{signed}
-use Rattle.civil_base.specs.Clock.{nanos_per_day}
-use Rattle.civil_base.specs.Layout.{day_part, time_part}
-use Rattle.civil_base.specs.PartLaws.{time_part-inside}
-use Rattle.civil_base.specs.Ranges.{last_day}
+use Rattle.std.proofs.{Common.{◌≡◌, ℕ, zero, suc, ◌+◌, ◌-◌, ◌<◌, Bool, true, false, cond, ◌||◌, nat_eq, ◌∷◌, map, Some, None, Result, Ok, Err, Vec, ℤ, pos, ◌+ℤ◌, ◌≤ℤ◌, ◌<ℤ◌, int_le, refl, sym, ap, ◌∙◌, arith}, lemmas.Bool.Decides.{nat_tests}}
+use Rattle.std.specs.{Prelude.{codes}, List.{range_with_len, slice_get}, declared.alloc.Global.{Global}}
+use Rattle.basics.specs.{ComparisonLaws.{le_from_pass}, SignedLaws.{signed}}
+use Rattle.civil_base.specs.{Clock.{nanos_per_day}, Layout.{day_part, time_part}, PartLaws.{time_part-inside}, Ranges.{last_day}}
 use Rattle.tz_lookup.specs.InForce.{all_in_force}
-use Rattle.tz_zone.specs.Sets.{schedule_of}
-use Rattle.tz_zone.specs.declared.set.FixedTimespanSet.{FixedTimespanSet}
-use Rattle.zone_alarm.specs.Asks.{AnswersRings, asks}
-use Rattle.zone_alarm.specs.RingLines.{ring_line}
-use Rattle.zone_alarm.specs.Rings.{day_ring, ends_in_years, ring_on, rings, time_on}
-use Rattle.zone_run.specs.Asked.{Answers}
-use Rattle.zone_run.specs.declared.program.Refusal.{Refusal}
-use Rattle.zone_run.specs.declared.program.Refusal.TheVariants.{Cause, NoMemory}
+use Rattle.tz_zone.specs.{Sets.{schedule_of}, declared.set.FixedTimespanSet.{FixedTimespanSet}}
+use Rattle.zone_alarm.specs.{Asks.{AnswersRings, asks}, RingLines.{ring_line}, Rings.{day_ring, ends_in_years, ring_on, rings, time_on}}
+use Rattle.zone_run.specs.{Asked.{Answers}, declared.program.Refusal.{Refusal}, declared.program.Refusal.TheVariants.{Cause, NoMemory}}
 use Rattle.zone_source.specs.LineLists.{ended}
 use Rattle.zone_spans.specs.Schedules.{total_at}
 

@@ -1,35 +1,14 @@
 -- What is found of a zone for ever, and why it can't be asked.
-use Rattle.std.proofs.Common.{◌≡◌, ℕ, List, [], Bool, true, false, cond, Option, Some, None, Ok, Err, refl, sym, ap, ◌∙◌}
-use Rattle.std.specs.FinMap.{get}
-use Rattle.std.specs.Prelude.{IfSome, IsTrue, option_map, unwrap_or}
-use Rattle.zone_table.specs.Resolved.{resolved_in}
-use Rattle.zone_table.specs.declared.table.Table.{Table}
-use Rattle.zone_table.specs.declared.zone.ZoneInfo.{ZoneInfo}
-use Rattle.zone_spans.specs.Compiled.{compiled, compiled_over}
-use Rattle.zone_spans.specs.GoesOn.{goes_on}
-use Rattle.zone_spans.specs.Lines.{Rulesets, zone_lines}
-use Rattle.zone_spans.specs.Schedules.{is_in_offset_range, totals_of}
-use Rattle.tz_ever.specs.AnyYear.{total_for_ever}
-use Rattle.tz_ever.specs.Ever.{ever_total}
-use Rattle.tz_ever.specs.ForEver.{ever_years}
-use Rattle.tz_ever.specs.Opens.{DoesNotGoOn, IsEverFault, IsFoundForEver, IsTooFarLater, IsZoneToday, leaves_year, leaves_year_later}
-use Rattle.tz_ever.specs.Unrolled.{unrolled}
-use Rattle.tz_ever.specs.declared.open.EverFault.{EverFault}
+use Rattle.std.{proofs.Common.{◌≡◌, ℕ, List, [], Bool, true, false, cond, Option, Some, None, Ok, Err, refl, sym, ap, ◌∙◌}, specs.FinMap.{get}, specs.Prelude.{IfSome, IsTrue, option_map, unwrap_or}}
+use Rattle.zone_table.specs.{Resolved.{resolved_in}, declared.table.Table.{Table}, declared.zone.ZoneInfo.{ZoneInfo}}
+use Rattle.zone_spans.specs.{Compiled.{compiled, compiled_over}, GoesOn.{goes_on}, Lines.{Rulesets, zone_lines}, Schedules.{is_in_offset_range, totals_of}}
+use Rattle.tz_ever.specs.{AnyYear.{total_for_ever}, Ever.{ever_total}, ForEver.{ever_years}, Opens.{DoesNotGoOn, IsEverFault, IsFoundForEver, IsTooFarLater, IsZoneToday, leaves_year, leaves_year_later}, Unrolled.{unrolled}, declared.open.EverFault.{EverFault}}
 use Rattle.tz_ever.specs.declared.open.EverFault.TheVariants.{LaterDay, LaterOffset, RulesEnd, Zone}
-use Rattle.tz_zone.specs.Compiles.{compiled_in, spans_of}
-use Rattle.tz_zone.specs.Sets.{schedule_of}
-use Rattle.tz_zone.specs.declared.set.FixedTimespanSet.{FixedTimespanSet}
-use Rattle.zone_answers.specs.Faults.{zone_refusal}
-use Rattle.zone_answers.specs.FoundLaws.{fault_told_so}
-use Rattle.zone_answers.specs.Told.{TellsReading}
-use Rattle.zone_answers.specs.declared.error.ReadingError.{ReadingError}
-use Rattle.zone_answers.specs.declared.error.ReadingError.TheVariants.{Answer, RulesEnd as Ends}
-use Rattle.zone_run.specs.FoundLaws.{compiled_refused}
-use Rattle.zone_run.specs.Readings.{Spans, ZoneCause, found_in_table, found_under, given_of, given_to_2099, offset_range, to_2099}
-use Rattle.zone_run.specs.Responses.{TellsCause, cause_told}
+use Rattle.tz_zone.specs.{Compiles.{compiled_in, spans_of}, Sets.{schedule_of}, declared.set.FixedTimespanSet.{FixedTimespanSet}}
+use Rattle.zone_answers.specs.{Faults.{zone_refusal}, FoundLaws.{fault_told_so}, Told.{TellsReading}, declared.error.ReadingError.{ReadingError}, declared.error.ReadingError.TheVariants.{Answer, RulesEnd as Ends}}
+use Rattle.zone_run.specs.{FoundLaws.{compiled_refused}, Readings.{Spans, ZoneCause, found_in_table, found_under, given_of, given_to_2099, offset_range, to_2099}, Responses.{TellsCause, cause_told}}
 use Rattle.zone_run.specs.declared.found.FindFault.TheVariants as find
-use Rattle.zone_ever.specs.Readings.{Gives, ending, for_ever, found_on, given_for_ever, spans_for_ever, with_cycles}
-use Rattle.zone_ever.specs.Refused.{Refuses, find_fault}
+use Rattle.zone_ever.specs.{Readings.{Gives, ending, for_ever, found_on, given_for_ever, spans_for_ever, with_cycles}, Refused.{Refuses, find_fault}}
 
 module _ {X : Type 0} (give : Gives X) where
   -- lines that can be asked to 2099

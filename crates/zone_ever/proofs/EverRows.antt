@@ -1,25 +1,14 @@
 -- What is found of zones for ever, and what words ask.
-use Rattle.std.proofs.Common.{◌≡◌, ℕ, ℤ, pos, ◌-ℤ◌, List, [], ◌∷◌, map, true, false, Some, None, Ok, Err, refl, ap}
-use Rattle.std.specs.Fmt.{digits}
-use Rattle.std.specs.Prelude.{codes}
+use Rattle.std.{proofs.Common.{◌≡◌, ℕ, ℤ, pos, ◌-ℤ◌, List, [], ◌∷◌, map, true, false, Some, None, Ok, Err, refl, ap}, specs.Fmt.{digits}, specs.Prelude.{codes}}
 use Rattle.zone_table.specs.declared.zone.ZoneInfo.{ZoneInfo}
-use Rattle.zone_spans.specs.Compiled.{compiled_over}
-use Rattle.zone_spans.specs.GoesOn.{goes_on}
-use Rattle.zone_spans.specs.Lines.{Rulesets, zone_lines}
-use Rattle.zone_spans.specs.declared.fault.SpanFault.TheVariants.{DayRange}
-use Rattle.tz_ever.specs.AnyYear.{total_for_ever}
-use Rattle.tz_ever.specs.Opens.{leaves_year}
-use Rattle.tz_ever.specs.Unrolled.{unrolled_entries}
+use Rattle.zone_spans.specs.{Compiled.{compiled_over}, GoesOn.{goes_on}, Lines.{Rulesets, zone_lines}, declared.fault.SpanFault.TheVariants.{DayRange}, Schedules.{is_in_offset_range, totals_of}}
+use Rattle.tz_ever.specs.{AnyYear.{total_for_ever}, Opens.{leaves_year}, Unrolled.{unrolled_entries}}
 use Rattle.tz_zone.specs.declared.set.FixedTimespanSet.{FixedTimespanSet}
 use Rattle.zone_alarm.specs.Asks as daily
-use Rattle.zone_list.specs.Asks as window_asks
 use Rattle.zone_list.specs.Windows.{window}
-use Rattle.zone_spans.specs.Schedules.{is_in_offset_range, totals_of}
-use Rattle.zone_run.specs.Readings.{Spans, ZoneCause, bad_schedule, offset_range, rules_end, to_2099}
-use Rattle.zone_run.specs.Tasks.{task_at, task_in}
-use Rattle.zone_ever.specs.Readings.{Gives, for_ever, found_on, given_for_ever, spans_for_ever}
-use Rattle.zone_ever.specs.Lists.{asks_ever}
-use Rattle.zone_ever.specs.Words.{alarm, answers, asks_in, list, nothing}
+use Rattle.zone_list.specs.Asks as window_asks
+use Rattle.zone_run.specs.{Readings.{Spans, ZoneCause, bad_schedule, offset_range, rules_end, to_2099}, Tasks.{task_at, task_in}}
+use Rattle.zone_ever.specs.{Readings.{Gives, for_ever, found_on, given_for_ever, spans_for_ever}, Lists.{asks_ever}, Words.{alarm, answers, asks_in, list, nothing}}
 
 module _ {X : Type 0} (give : Gives X) (rulesets : Rulesets) (lines : List ZoneInfo) (today later : Spans) where
   -- a cause of the years to 2099 comes first, whatever the rules

@@ -1,15 +1,10 @@
 -- How a run ends.
 use Rattle.std.specs.Prelude.{◌≡◌, ℕ, List, Option, IsNone, codes}
-use Rattle.zone_answers.specs.Due.{due_bytes_with}
-use Rattle.zone_answers.specs.Ends.{writes_with}
-use Rattle.zone_run.specs.Ends.{EndsWith}
-use Rattle.zone_run.specs.Tasks.{Task}
-use Rattle.zone_source.specs.Runs.{EndsOver, Seen}
-use Rattle.zone_source.specs.Starts.{without_input}
-use Rattle.zone_source.specs.declared.running.Status.{Status}
+use Rattle.zone_answers.specs.{Due.{due_bytes_with}, Ends.{writes_with}}
+use Rattle.zone_run.specs.{Ends.{EndsWith}, Tasks.{Task}}
+use Rattle.zone_source.specs.{Runs.{EndsOver, Seen}, Starts.{without_input}, declared.running.Status.{Status}}
 use Rattle.zone_source.specs.declared.running.Status.TheVariants as status
-use Rattle.zone_ever.specs.Readings.{for_ever, spans_for_ever}
-use Rattle.zone_ever.specs.Words.{Asks, alarm, answers, list, nothing}
+use Rattle.zone_ever.specs.{Readings.{for_ever, spans_for_ever}, Words.{Asks, alarm, answers, list, nothing}}
 
 -- a run over one zone of a file, which leaves the input alone
 pub record EndsOverZone (label : List ℕ) (task : Option Task) (before now : Seen) (end : Status) : Type 0 where

@@ -1,14 +1,8 @@
 -- Zones that are read for ever.
 use Rattle.std.specs.Prelude.{ℤ, Bool, List, Some, Ok, Err, if◌then◌else◌}
 use Rattle.zone_table.specs.declared.zone.ZoneInfo.{ZoneInfo}
-use Rattle.zone_spans.specs.Compiled.{compiled_over}
-use Rattle.zone_spans.specs.GoesOn.{goes_on}
-use Rattle.zone_spans.specs.Lines.{Rulesets, zone_lines}
-use Rattle.zone_spans.specs.declared.fault.SpanFault.TheVariants.{DayRange}
-use Rattle.tz_ever.specs.AnyYear.{total_for_ever}
-use Rattle.tz_ever.specs.ForEver.{ever_years}
-use Rattle.tz_ever.specs.Opens.{leaves_year}
-use Rattle.tz_ever.specs.Unrolled.{unrolled_entries}
+use Rattle.zone_spans.specs.{Compiled.{compiled_over}, GoesOn.{goes_on}, Lines.{Rulesets, zone_lines}, declared.fault.SpanFault.TheVariants.{DayRange}}
+use Rattle.tz_ever.specs.{AnyYear.{total_for_ever}, ForEver.{ever_years}, Opens.{leaves_year}, Unrolled.{unrolled_entries}}
 use Rattle.zone_run.specs.Readings.{Found, Reading, Spans, ZoneCause, bad_schedule, given_of, rules_end, to_2099}
 
 -- why lines don't go on: for a day of the first 704 years that lies in another year than its own, or without one

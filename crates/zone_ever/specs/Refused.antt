@@ -1,11 +1,9 @@
 -- Why a zone can't be asked for ever.
 use Rattle.std.specs.Prelude.{◌≡◌, ℕ}
 use Rattle.zone_spans.specs.declared.fault.SpanFault.TheVariants.{DayRange}
-use Rattle.tz_ever.specs.declared.open.EverFault.{EverFault}
-use Rattle.tz_ever.specs.declared.open.EverFault.TheVariants.{Zone, LaterDay, RulesEnd, LaterOffset}
+use Rattle.tz_ever.specs.declared.open.EverFault.{EverFault, TheVariants.{Zone, LaterDay, RulesEnd, LaterOffset}}
 use Rattle.tz_zone.specs.declared.compile.ZoneFault.TheVariants as zone
-use Rattle.zone_answers.specs.Told.{RefusesZone}
-use Rattle.zone_answers.specs.declared.error.ReadingError.{ReadingError}
+use Rattle.zone_answers.specs.{Told.{RefusesZone}, declared.error.ReadingError.{ReadingError}}
 use Rattle.zone_answers.specs.declared.error.ReadingError.TheVariants as error
 use Rattle.zone_run.specs.declared.found.FindFault.{FindFault}
 use Rattle.zone_run.specs.declared.found.FindFault.TheVariants as find

@@ -1,8 +1,6 @@
 -- How the program ends that was started.
-use Rattle.zone_source.specs.Starts.{Run, Starts}
-use Rattle.zone_source.specs.declared.starting.Started.{Started}
-use Rattle.zone_ever.specs.Ends.{Ends}
-use Rattle.zone_ever.specs.Words.{asks_of}
+use Rattle.zone_source.specs.{Starts.{Run, Starts}, declared.starting.Started.{Started}}
+use Rattle.zone_ever.specs.{Ends.{Ends}, Words.{asks_of}}
 
 -- how its run ends, by what its words ask
 abbrev pub ever_run : Run

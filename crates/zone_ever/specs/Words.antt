@@ -1,6 +1,5 @@
 -- What the words of a run ask.
-use Rattle.std.specs.Prelude.{ℕ, List, [], ◌∷◌, map, String, string_bytes, Option, Some, None, option_map, bytes_eq, codes, if◌then◌else◌}
-use Rattle.std.specs.declared.alloc.Global.{Global}
+use Rattle.std.specs.{Prelude.{ℕ, List, [], ◌∷◌, map, String, string_bytes, Option, Some, None, option_map, bytes_eq, codes, if◌then◌else◌}, declared.alloc.Global.{Global}}
 use Rattle.zone_alarm.specs.Asks.{form as alarm_form}
 use Rattle.zone_run.specs.Tasks.{Task, task_in}
 use Rattle.zone_ever.specs.Lists.{form as list_form}

@@ -1,8 +1,7 @@
 //! The top call.
 ghost use Rattle.std.specs.Prelude.{◌≡◌, ℕ, List, Some, map, string_bytes, option_map};
 ghost use Rattle.zone_source.specs.Runs.{run_seen};
-ghost use Rattle.zone_ever.specs.Ends.{Ends};
-ghost use Rattle.zone_ever.specs.Words.{answers, asks_after, asks_of, file_asked, file_in};
+ghost use Rattle.zone_ever.specs.{Ends.{Ends}, Words.{answers, asks_after, asks_of, file_asked, file_in}};
 
 use crate::alarm::EverDaily;
 use crate::list::EverWindow;

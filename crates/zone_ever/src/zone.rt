@@ -17,8 +17,7 @@ pub struct EverZone {
 }
 
 impl FoundZone for EverZone {
-    ghost use Rattle.tz_ever.specs.EverShown.{ever_seen};
-    ghost use Rattle.tz_ever.specs.Unrolled.{unrolled};
+    ghost use Rattle.tz_ever.specs.{EverShown.{ever_seen}, Unrolled.{unrolled}};
     ghost use Rattle.zone_ever.specs.Readings.{spans_for_ever};
 
     ghost read = { spans_for_ever };
@@ -38,8 +37,7 @@ impl FoundZone for EverZone {
 }
 
 impl OpenedZone for EverZone {
-    ghost use Rattle.tz_ever.specs.Ever.{ever_total};
-    ghost use Rattle.tz_ever.specs.EverShown.{ever_seen};
+    ghost use Rattle.tz_ever.specs.{Ever.{ever_total}, EverShown.{ever_seen}};
     ghost use Rattle.zone_ever.specs.Readings.{for_ever};
 
     ghost read = { for_ever };

@@ -1,21 +1,13 @@
 -- Which fault of a request comes first, its number and its line, at worked rows.
-use Rattle.std.proofs.Common.{◌≡◌, ℕ, List, [], ◌∷◌, ◌++◌, length, map, Option, Some, None, option_map, refl, ap, pos, negsuc, arith, length-append}
-use Rattle.std.specs.Fmt.{digits}
-use Rattle.std.specs.Prelude.{codes, unwrap_or}
-use Rattle.std.specs.Str.{is_utf8, chars}
+use Rattle.std.{proofs.Common.{◌≡◌, ℕ, List, [], ◌∷◌, ◌++◌, length, map, Option, Some, None, option_map, refl, ap, pos, negsuc, arith, length-append}, specs.Fmt.{digits}, specs.Prelude.{codes, unwrap_or}, specs.Str.{is_utf8, chars}}
 use lib.Utf8.{encode}
 use Rattle.civil_base.specs.LocalTimes.{local_time_in}
-use Rattle.zone_answers.specs.Faults.{has_dates}
-use Rattle.zone_answers.specs.Requests.{at, local, nanoseconds_in, request_with}
+use Rattle.zone_answers.specs.{Faults.{has_dates}, Requests.{at, local, nanoseconds_in, request_with}}
 use Rattle.zone_source.specs.Lines.{lines_of}
-use Rattle.zone_file_answers.specs.Due.{IsRefused}
-use Rattle.zone_file_answers.specs.Faults.{Fault, bad_request, fault_line, file, first_refused, not_text, range, request_refusal}
-use Rattle.zone_file_answers.specs.Requests.{request_of}
-use Rattle.zone_file_answers.specs.Told.{fault_told, FaultOfFile, TellsOf}
-use Rattle.zone_file_answers.specs.declared.fault.FileFault.TheVariants as of_code
+use Rattle.zone_file_answers.specs.{Due.{IsRefused}, Faults.{Fault, bad_request, fault_line, file, first_refused, not_text, range, request_refusal}, Requests.{request_of}, Told.{fault_told, FaultOfFile, TellsOf}}
 use Rattle.zone_file_answers.specs.declared.fault.FileFault.TheVariants.{NoMemory}
-use Rattle.zone_tzif_core.specs.Denotes.{Says, zone_file, old_file}
-use Rattle.zone_tzif_core.specs.Zones.{ZoneValue}
+use Rattle.zone_file_answers.specs.declared.fault.FileFault.TheVariants as of_code
+use Rattle.zone_tzif_core.specs.{Denotes.{Says, zone_file, old_file}, Zones.{ZoneValue}}
 
 -- of two faults the first is told, with the number of its line
 first_of_two : first_refused (λ t. pos 0) 1 (codes "at 0" ∷ codes "what" ∷ (255 ∷ []) ∷ []) ≡ Some (bad_request 2)

@@ -1,13 +1,7 @@
 -- Why a request line is refused, and the line that answers one that is not.
-use Rattle.std.proofs.Common.{◌≡◌, ℕ, ℤ, List, [], true, false, cond, Option, Some, None, sym, ap, ◌∙◌}
-use Rattle.std.specs.Option.{option_map_or}
-use Rattle.std.specs.Str.{is_utf8}
-use Rattle.zone_answers.specs.AskedLaws.{Asks}
-use Rattle.zone_answers.specs.Due.{answer_text, shown_at}
-use Rattle.zone_answers.specs.Requests.{Request}
-use Rattle.zone_file_answers.specs.Due.{answer_line}
-use Rattle.zone_file_answers.specs.Faults.{bad_request, not_text, dates_refusal, request_refusal}
-use Rattle.zone_file_answers.specs.Requests.{request_of}
+use Rattle.std.{proofs.Common.{◌≡◌, ℕ, ℤ, List, [], true, false, cond, Option, Some, None, sym, ap, ◌∙◌}, specs.Option.{option_map_or}, specs.Str.{is_utf8}}
+use Rattle.zone_answers.specs.{AskedLaws.{Asks}, Due.{answer_text, shown_at}, Requests.{Request}}
+use Rattle.zone_file_answers.specs.{Due.{answer_line}, Faults.{bad_request, not_text, dates_refusal, request_refusal}, Requests.{request_of}}
 
 pub not_text_refused : (total : ℤ → ℤ) (n : ℕ) (line : List ℕ) → is_utf8 line ≡ false → request_refusal total n line ≡ Some (not_text n)
 unfolding request_refusal

@@ -1,27 +1,13 @@
 -- What was found of a file and its requests, and what was written of it.
-use Rattle.std.proofs.Common.{◌≡◌, ℕ, ℤ, List, [], ◌∷◌, ◌++◌, map, Option, Some, None, Result, Ok, Err, IfOk, IfErr, OnOk, MatchResult, IfSome, true, is_some, inr, refl, sym, ◌∙◌, subst}
-use Rattle.std.specs.Prelude.{IsSomeAnd}
-use Rattle.tz_tzif.specs.FooterForce.{FooterZone}
-use Rattle.tz_tzif.specs.Standing.{stands_for}
-use Rattle.tz_tzif.specs.Faults.{HasOffsets, IsAcceptedFile, IsNoFooter, IsTzifFault, SaysInFooter}
-use Rattle.tz_tzif.specs.InForce.{told_total_at}
-use Rattle.tz_tzif.specs.declared.fault.TzifFault.{TzifFault}
+use Rattle.std.{proofs.Common.{◌≡◌, ℕ, ℤ, List, [], ◌∷◌, ◌++◌, map, Option, Some, None, Result, Ok, Err, IfOk, IfErr, OnOk, MatchResult, IfSome, true, is_some, inr, refl, sym, ◌∙◌, subst}, specs.Prelude.{IsSomeAnd}}
+use Rattle.tz_tzif.specs.{FooterForce.{FooterZone}, Standing.{stands_for}, Faults.{HasOffsets, IsAcceptedFile, IsNoFooter, IsTzifFault, SaysInFooter}, InForce.{told_total_at}, declared.fault.TzifFault.{TzifFault}}
 use Rattle.tz_tzif.specs.declared.fault.TzifFault.TheVariants as tzif
 use Rattle.zone_outside.specs.Seen.{OutputSeen}
-use Rattle.zone_source.specs.Lines.{lines_of}
-use Rattle.zone_tzif_core.specs.Denotes.{Says}
-use Rattle.zone_tzif_core.specs.ZoneFiles.{HasFooter}
-use Rattle.zone_tzif_core.specs.Zones.{ZoneValue}
-use Rattle.zone_file_answers.specs.Due.{answer_line, IsFaultLine}
-use Rattle.zone_file_answers.specs.Faults.{Fault, fault_line, first_refused}
-use Rattle.zone_file_answers.specs.Files.{IsFile, IsNoFile}
-use Rattle.zone_source.specs.Responses.{Responds}
-use Rattle.zone_file_answers.specs.Responses.{RespondsFault, writes}
-use Rattle.zone_file_answers.specs.Told.{AnswersFile, FaultOfFile, IsToldFault, TellsOf, fault_told}
+use Rattle.zone_source.specs.{Lines.{lines_of}, Responses.{Responds}, declared.running.Answered.{Answered}, declared.running.Answered.TheVariants.{Done, Fault as Wrong, Failed, NoMemory}}
+use Rattle.zone_tzif_core.specs.{Denotes.{Says}, ZoneFiles.{HasFooter}, Zones.{ZoneValue}}
+use Rattle.zone_file_answers.specs.{Due.{answer_line, IsFaultLine}, Faults.{Fault, fault_line, first_refused}, Files.{IsFile, IsNoFile}, Responses.{RespondsFault, writes}, Told.{AnswersFile, FaultOfFile, IsToldFault, TellsOf, fault_told}}
 use Rattle.zone_file_answers.specs.declared.fault.FileFault.{FileFault}
 use Rattle.zone_file_answers.specs.declared.fault.FileFault.TheVariants as code
-use Rattle.zone_source.specs.declared.running.Answered.{Answered}
-use Rattle.zone_source.specs.declared.running.Answered.TheVariants.{Done, Fault as Wrong, Failed, NoMemory}
 
 -- a fault of the value other than want of memory leaves nothing that can be looked up
 refused_value : (value : ZoneValue) (footer : Option FooterZone) (fault : TzifFault) → IsTzifFault value fault → (fault ≡ tzif.NoMemory → ⊥)

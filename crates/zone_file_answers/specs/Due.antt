@@ -1,12 +1,8 @@
 -- The bytes that are due for a file and its requests.
-use Rattle.std.specs.Prelude.{◌≡◌, ℕ, ℤ, List, [], ◌∷◌, ◌++◌, map, Some, None}
-use Rattle.std.specs.Option.{option_map_or}
+use Rattle.std.specs.{Prelude.{◌≡◌, ℕ, ℤ, List, [], ◌∷◌, ◌++◌, map, Some, None}, Option.{option_map_or}}
 use Rattle.zone_answers.specs.Due.{answer_text, shown_at}
-use Rattle.zone_source.specs.LineLists.{ended}
-use Rattle.zone_source.specs.Lines.{lines_of}
-use Rattle.zone_file_answers.specs.Faults.{Fault, file, fault_line, first_refused}
-use Rattle.zone_file_answers.specs.Files.{IsFile, IsNoFile}
-use Rattle.zone_file_answers.specs.Requests.{request_of}
+use Rattle.zone_source.specs.{LineLists.{ended}, Lines.{lines_of}}
+use Rattle.zone_file_answers.specs.{Faults.{Fault, file, fault_line, first_refused}, Files.{IsFile, IsNoFile}, Requests.{request_of}}
 
 -- the line of a request that is not refused
 unfoldable pub answer_line : (ℤ → ℤ) → List ℕ → List ℕ

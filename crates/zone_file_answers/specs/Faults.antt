@@ -1,10 +1,7 @@
 -- Why a file or a request is refused, with the number of its line.
-use Rattle.std.specs.Prelude.{ℕ, suc, ℤ, List, [], ◌∷◌, Option, Some, None, codes, if◌then◌else◌}
-use Rattle.std.specs.Option.{option_or, option_map_or}
-use Rattle.std.specs.Str.{is_utf8}
+use Rattle.std.specs.{Prelude.{ℕ, suc, ℤ, List, [], ◌∷◌, Option, Some, None, codes, if◌then◌else◌}, Option.{option_or, option_map_or}, Str.{is_utf8}}
+use Rattle.zone_answers.specs.{Faults.{has_dates}, Requests.{Request}}
 use Rattle.zone_answers.specs.FaultLines as answers
-use Rattle.zone_answers.specs.Faults.{has_dates}
-use Rattle.zone_answers.specs.Requests.{Request}
 use Rattle.zone_file_answers.specs.Requests.{request_of}
 
 -- a file that is no zone; a request that is no text, one in no form, and one whose date leaves the years -9999 to 9999

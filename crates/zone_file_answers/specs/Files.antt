@@ -1,10 +1,7 @@
 -- The zone that a file is.
 use Rattle.std.specs.Prelude.{◌≡◌, ℕ, ℤ, List, Option}
-use Rattle.tz_tzif.specs.FooterForce.{FooterZone}
-use Rattle.tz_tzif.specs.Faults.{IsAcceptedFile}
-use Rattle.tz_tzif.specs.InForce.{told_total_at}
-use Rattle.zone_tzif_core.specs.Denotes.{Says}
-use Rattle.zone_tzif_core.specs.Zones.{ZoneValue}
+use Rattle.tz_tzif.specs.{FooterForce.{FooterZone}, Faults.{IsAcceptedFile}, InForce.{told_total_at}}
+use Rattle.zone_tzif_core.specs.{Denotes.{Says}, Zones.{ZoneValue}}
 
 -- a value that the file says, with what its footer says, can be looked up, and has this total at each instant
 pub record IsFile (file : List ℕ) (total : ℤ → ℤ) : Type 0 where

@@ -1,6 +1,5 @@
 -- What a request line asks.
-use Rattle.std.specs.Prelude.{ℕ, List, [], Option}
-use Rattle.std.specs.List.{before_first, after_first}
+use Rattle.std.specs.{Prelude.{ℕ, List, [], Option}, List.{before_first, after_first}}
 use Rattle.zone_answers.specs.Requests.{Request, is_space, request_with}
 
 -- `at N` or `local TEXT`, with one space after the word: of a zone without a name

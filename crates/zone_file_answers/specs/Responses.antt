@@ -1,15 +1,8 @@
 -- What was written of the due bytes.
 use Rattle.std.specs.Prelude.{◌≡◌, ℕ, List, [], ◌∷◌, ◌++◌, IsSomeAnd, ◌⊎◌}
-use Rattle.zone_outside.specs.Outside.{Rose}
-use Rattle.zone_outside.specs.Seen.{OutputSeen, Grew, GrewBySome}
-use Rattle.zone_file_answers.specs.Due.{AreAnswers, IsFaultLine}
-use Rattle.zone_file_answers.specs.Faults.{fault_line}
-use Rattle.zone_file_answers.specs.Told.{fault_told}
-use Rattle.zone_file_answers.specs.declared.fault.FileFault.{FileFault}
-use Rattle.zone_source.specs.Runs.{Writes}
-use Rattle.zone_source.specs.declared.running.Answered.{Answered}
-use Rattle.zone_source.specs.declared.running.Answered.TheVariants.{Done, Fault, Failed, NoMemory}
-use Rattle.zone_source.specs.declared.running.Status.{Status}
+use Rattle.zone_outside.specs.{Outside.{Rose}, Seen.{OutputSeen, Grew, GrewBySome}}
+use Rattle.zone_file_answers.specs.{Due.{AreAnswers, IsFaultLine}, Faults.{fault_line}, Told.{fault_told}, declared.fault.FileFault.{FileFault}}
+use Rattle.zone_source.specs.{Runs.{Writes}, declared.running.Answered.{Answered}, declared.running.Answered.TheVariants.{Done, Fault, Failed, NoMemory}, declared.running.Status.{Status}}
 use Rattle.zone_source.specs.declared.running.Status.TheVariants as status
 
 -- all of some bytes were written that are due

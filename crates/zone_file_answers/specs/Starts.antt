@@ -1,8 +1,6 @@
 -- How the program ends that was started.
 use Rattle.zone_file_answers.specs.Ends.{Ends}
-use Rattle.zone_source.specs.FileWords.{file_of}
-use Rattle.zone_source.specs.Starts.{Run, StartsBare}
-use Rattle.zone_source.specs.declared.starting.Started.{Started}
+use Rattle.zone_source.specs.{FileWords.{file_of}, Starts.{Run, StartsBare}, declared.starting.Started.{Started}}
 
 -- how its run ends, whose words name one file
 abbrev pub answers_run : Run

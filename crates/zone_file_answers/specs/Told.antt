@@ -1,10 +1,7 @@
 -- The fault that the code's fault tells; want of memory tells none.
 use Rattle.std.specs.Prelude.{◌≡◌, ℕ, ℤ, List, map, Option, Some, None}
 use Rattle.zone_source.specs.Lines.{lines_of}
-use Rattle.zone_file_answers.specs.Due.{answer_line, IsFault}
-use Rattle.zone_file_answers.specs.Faults.{Fault, file, not_text, bad_request, range, first_refused}
-use Rattle.zone_file_answers.specs.Files.{IsFile, IsNoFile}
-use Rattle.zone_file_answers.specs.declared.fault.FileFault.{FileFault}
+use Rattle.zone_file_answers.specs.{Due.{answer_line, IsFault}, Faults.{Fault, file, not_text, bad_request, range, first_refused}, Files.{IsFile, IsNoFile}, declared.fault.FileFault.{FileFault}}
 use Rattle.zone_file_answers.specs.declared.fault.FileFault.TheVariants as of_code
 
 abbrev pub fault_told : FileFault → Option Fault

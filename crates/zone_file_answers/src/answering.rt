@@ -1,11 +1,8 @@
 //! The answers to the requests over a file.
 ghost use Rattle.std.specs.Prelude.{◌≡◌, ◌≤◌, ℕ, List, None, IfErr, IfOk, OnOk, MatchResult, length, map};
-ghost use Rattle.tz_tzif.specs.InForce.{told_total_at};
-ghost use Rattle.tz_tzif.specs.Zones.{value_of, says_of};
+ghost use Rattle.tz_tzif.specs.{InForce.{told_total_at}, Zones.{value_of, says_of}};
 ghost use Rattle.zone_source.specs.Lines.{lines_of};
-ghost use Rattle.zone_file_answers.specs.Due.{answer_line};
-ghost use Rattle.zone_file_answers.specs.Faults.{first_refused, request_refusal};
-ghost use Rattle.zone_file_answers.specs.Told.{AnswersFile, FaultOfFile, TellsOf};
+ghost use Rattle.zone_file_answers.specs.{Due.{answer_line}, Faults.{first_refused, request_refusal}, Told.{AnswersFile, FaultOfFile, TellsOf}};
 
 use crate::fault::FileFault;
 use crate::request::read_request;

@@ -1,7 +1,6 @@
 //! Why a file or a request is refused.
 ghost use Rattle.std.specs.Prelude.{◌≡◌, ◌++◌, ◌∷◌, [], ◌≤◌, length, true, IfSome, is_some, IfOk};
-ghost use Rattle.zone_file_answers.specs.Faults.{fault_line, file_refused, request_line};
-ghost use Rattle.zone_file_answers.specs.Told.{fault_told};
+ghost use Rattle.zone_file_answers.specs.{Faults.{fault_line, file_refused, request_line}, Told.{fault_told}};
 
 use std::alloc::{AllocError, Global};
 use thiserror::Error;

@@ -14,8 +14,8 @@ use zone_source::{Answered, LIMIT, Sink, TextAnswers, write_all};
 pub(crate) struct FileAnswers;
 
 impl TextAnswers for FileAnswers {
-    ghost use Rattle.zone_file_answers.specs.EndLaws as laws;
     ghost use Rattle.zone_file_answers.specs.Responses.{writes};
+    ghost use Rattle.zone_file_answers.specs.EndLaws as laws;
 
     ghost writes = { λ _. writes };
 

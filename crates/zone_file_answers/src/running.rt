@@ -1,8 +1,7 @@
 //! The top call.
 ghost use Rattle.std.specs.Prelude.{◌≡◌, ℕ, List, Some};
 ghost use Rattle.zone_file_answers.specs.Ends.{Ends};
-ghost use Rattle.zone_source.specs.FileWords.{file_of};
-ghost use Rattle.zone_source.specs.Runs.{run_seen};
+ghost use Rattle.zone_source.specs.{FileWords.{file_of}, Runs.{run_seen}};
 
 use crate::respond::FileAnswers;
 use std::alloc::Global;

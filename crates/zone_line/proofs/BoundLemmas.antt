@@ -1,42 +1,19 @@
 -- The values of lines are bounded.
 use Rattle.std.proofs.Common.{◌≡◌, ℕ, ◌+◌, ◌-◌, ◌*◌, ◌^◌, ◌<◌, ℤ, pos, negsuc, neg_ℤ, ◌≤ℤ◌, Bool, true, false, ◌&&◌, nat_lt, List, [], ◌∷◌, Option, Some, None, Result, Ok, Err, IfOk, IfSome, IsTrue, refl, subst, arith, codes, bytes_eq, ltb-true}
-use Rattle.std.specs.Prelude.{option_map, option_and_then, if◌then◌else◌}
-use Rattle.std.specs.Char.{is_ascii_digit}
-use Rattle.std.specs.Option.{option_map_or, ok_or}
-use Rattle.std.specs.Str.Parse.{without_leading_sign, signed_digits_value}
-use Rattle.std.proofs.lemmas.Int.{ints}
-use Rattle.std.proofs.lemmas.Bool.{and_from, and_parts}
-use Rattle.std.proofs.lemmas.Grind.{common_steps}
+use Rattle.std.proofs.lemmas.{Int.{ints}, Bool.{and_from, and_parts}, Grind.{common_steps}}
+use Rattle.std.specs.{Prelude.{option_map, option_and_then, if◌then◌else◌}, Char.{is_ascii_digit}, Option.{option_map_or, ok_or}, Str.Parse.{without_leading_sign, signed_digits_value}}
 use lib.Signed.{mag}
-use Rattle.zone_values.specs.Bounds.{are_small_seconds, is_bounded_end, is_bounded_saving, is_bounded_info, is_bounded_rule, is_bounded_line}
-use Rattle.zone_line.specs.Clocks.{ClockTexts, clock_in, minute_clock}
-use Rattle.zone_line.specs.Columns.{InfoTexts, RuleTexts}
-use Rattle.zone_line.specs.DayColumns.{DayTexts, day_columns}
-use Rattle.zone_values.specs.Days.{is_day_of_month, has_day_of_month}
-use Rattle.zone_values.specs.Faults.{Fault, refused}
-use Rattle.zone_values.specs.declared.fault.FaultKind.TheVariants.{CouldNotParseSaving, InvalidDaySpec, InvalidLineType}
-use Rattle.zone_values.specs.Months.{month_field}
-use Rattle.zone_values.specs.Weekdays.{weekday_field}
-use Rattle.zone_values.specs.Years.{year_field}
-use Rattle.zone_line.specs.Fields.{to_field, type_field, day_numbered, day_of_month, sided_day, last_weekday, after_last, day_field, time_field, wall_field, is_ruleset_name}
-use Rattle.zone_line.specs.Kinds.{LineKind, kind_of}
-use Rattle.zone_line.specs.Kinds as kind
-use Rattle.zone_line.specs.LineValues.{one_off_of, saving_field, until, has_yearless_end, some_end, end_of, info_of, rule_of, value_of_kind, value}
-use Rattle.basics.specs.Numbers.{is_numeral, signed_in}
-use Rattle.zone_line.specs.Digits.{two_digits, digit_of}
-use Rattle.zone_line.specs.Options.{first_some}
+use Rattle.zone_values.specs.{Bounds.{are_small_seconds, is_bounded_end, is_bounded_saving, is_bounded_info, is_bounded_rule, is_bounded_line}, Days.{is_day_of_month, has_day_of_month}, Faults.{Fault, refused}}
+use Rattle.zone_values.specs.{declared.fault.FaultKind.TheVariants.{CouldNotParseSaving, InvalidDaySpec, InvalidLineType}, Months.{month_field}, Weekdays.{weekday_field}, Years.{year_field}, Seconds.{seconds_of, with_type}}
+use Rattle.zone_values.specs.{Values.{SavingValue, InfoValue, RuleValue, LineValue}, declared.change.ChangeTime.{ChangeTime}, declared.day.DaySpec.{DaySpec}, declared.day.DaySpec.TheVariants.{Ordinal, LastOnOrBefore, FirstOnOrAfter}}
+use Rattle.zone_values.specs.declared.time.{TimeSpec.{TimeSpec}, TimeSpec.TheVariants.{Hours, HoursMinutes, HoursMinutesSeconds, Zero}, TimeSpecAndType.{TimeSpecAndType}, TimeType.{TimeType}, TimeType.TheVariants.{Wall, Standard, UTC}}
 use Rattle.zone_values.specs.Results as results
-use Rattle.zone_values.specs.Seconds.{seconds_of, with_type}
+use Rattle.zone_line.specs.{Clocks.{ClockTexts, clock_in, minute_clock}, Columns.{InfoTexts, RuleTexts}, DayColumns.{DayTexts, day_columns}}
+use Rattle.zone_line.specs.{Fields.{to_field, type_field, day_numbered, day_of_month, sided_day, last_weekday, after_last, day_field, time_field, wall_field, is_ruleset_name}, Kinds.{LineKind, kind_of}}
+use Rattle.zone_line.specs.{LineValues.{one_off_of, saving_field, until, has_yearless_end, some_end, end_of, info_of, rule_of, value_of_kind, value}, Digits.{two_digits, digit_of}, Options.{first_some}}
 use Rattle.zone_line.specs.Times.{no_time, hours_alone, is_bare, signed, clock_type, clock_time, time_of, if_wall, if_by_wall}
-use Rattle.zone_values.specs.Values.{SavingValue, InfoValue, RuleValue, LineValue}
-use Rattle.zone_values.specs.declared.change.ChangeTime.{ChangeTime}
-use Rattle.zone_values.specs.declared.day.DaySpec.{DaySpec}
-use Rattle.zone_values.specs.declared.day.DaySpec.TheVariants.{Ordinal, LastOnOrBefore, FirstOnOrAfter}
-use Rattle.zone_values.specs.declared.time.TimeSpec.{TimeSpec}
-use Rattle.zone_values.specs.declared.time.TimeSpec.TheVariants.{Hours, HoursMinutes, HoursMinutesSeconds, Zero}
-use Rattle.zone_values.specs.declared.time.TimeSpecAndType.{TimeSpecAndType}
-use Rattle.zone_values.specs.declared.time.TimeType.{TimeType}
-use Rattle.zone_values.specs.declared.time.TimeType.TheVariants.{Wall, Standard, UTC}
+use Rattle.zone_line.specs.Kinds as kind
+use Rattle.basics.specs.Numbers.{is_numeral, signed_in}
 
 -- what passes through the steps of a reading
 onward : {A B E : Type 0} (P : A → Type 0) (Q : B → Type 0) (r : Result A E) (next : A → Result B E)

@@ -1,23 +1,10 @@
 -- Of several columns without a value, the first in the order of reading is the fault.
-use Rattle.std.proofs.Common.{◌≡◌, ℕ, List, [], ◌∷◌, Option, Some, None, Result, Ok, Err, refl}
-use Rattle.std.specs.Prelude.{option_map, ok_or}
-use Rattle.zone_values.specs.Faults.{Fault, refused}
-use Rattle.zone_values.specs.Months.{month_field}
-use Rattle.zone_values.specs.Weekdays.{weekday_field}
-use Rattle.zone_values.specs.Years.{year_field}
-use Rattle.zone_values.specs.Seconds.{with_type}
-use Rattle.zone_values.specs.Values.{one_off}
-use Rattle.zone_values.specs.declared.fault.FaultKind.TheVariants.{InvalidDaySpec, InvalidTimeSpecAndType, NonWallClockInTimeSpec}
-use Rattle.zone_values.specs.declared.time.TimeSpec.{TimeSpec}
-use Rattle.zone_values.specs.declared.time.TimeSpecAndType.{TimeSpecAndType}
-use Rattle.zone_line.specs.Clocks.{ClockTexts, minute_clock}
-use Rattle.zone_line.specs.Columns.{InfoTexts, RuleTexts}
-use Rattle.zone_line.specs.DayColumns.{DayTexts}
-use Rattle.zone_line.specs.Fields.{to_field, type_field, day_field, time_field, wall_field, sided_day, day_of_month}
-use Rattle.zone_line.specs.LineValues.{one_off_of, saving_field, until, end_of, info_of, rule_of}
-use Rattle.zone_line.specs.Options.{first_some}
+use Rattle.std.{proofs.Common.{◌≡◌, ℕ, List, [], ◌∷◌, Option, Some, None, Result, Ok, Err, refl}, specs.Prelude.{option_map, ok_or}}
+use Rattle.zone_values.specs.{Faults.{Fault, refused}, Months.{month_field}, Weekdays.{weekday_field}, Years.{year_field}, Seconds.{with_type}, Values.{one_off}}
+use Rattle.zone_values.specs.declared.{fault.FaultKind.TheVariants.{InvalidDaySpec, InvalidTimeSpecAndType, NonWallClockInTimeSpec}, time.TimeSpec.{TimeSpec}, time.TimeSpecAndType.{TimeSpecAndType}}
 use Rattle.zone_values.specs.Results as results
-use Rattle.zone_line.specs.Times.{no_time, hours_alone, clock_time, clock_type, if_wall, time_of}
+use Rattle.zone_line.specs.{Clocks.{ClockTexts, minute_clock}, Columns.{InfoTexts, RuleTexts}, DayColumns.{DayTexts}, Fields.{to_field, type_field, day_field, time_field, wall_field, sided_day, day_of_month}}
+use Rattle.zone_line.specs.{LineValues.{one_off_of, saving_field, until, end_of, info_of, rule_of}, Options.{first_some}, Times.{no_time, hours_alone, clock_time, clock_type, if_wall, time_of}}
 
 abbrev fault_in : {A : Type 0} → Result A Fault → Option Fault
 fault_in (Ok x) = None

@@ -1,28 +1,12 @@
 -- The definitions of fields at worked rows.
-use Rattle.std.proofs.Common.{◌≡◌, ℕ, List, [], ◌∷◌, map, true, false, Option, Some, None, Ok, Err, refl, pos, negsuc}
-use Rattle.std.specs.Prelude.{codes}
-use Rattle.zone_values.specs.Faults.{refused}
-use Rattle.zone_values.specs.Months.{month_named}
-use Rattle.basics.specs.Numbers.{signed_in}
-use Rattle.zone_values.specs.Seconds.{with_type}
-use Rattle.zone_values.specs.Values.{no_saving, multiple}
-use Rattle.zone_values.specs.Weekdays.{weekday_named}
-use Rattle.zone_values.specs.Years.{year_named}
-use Rattle.zone_values.specs.declared.change.ChangeTime.TheVariants.{UntilYear, UntilMonth, UntilDay, UntilTime}
-use Rattle.zone_values.specs.declared.day.DaySpec.TheVariants.{Ordinal, Last, LastOnOrBefore, FirstOnOrAfter}
-use Rattle.zone_values.specs.declared.fault.FaultKind.TheVariants.{FailedWeekdayParse, InvalidLineType, TypeColumnContainedNonHyphen, InvalidDaySpec}
-use Rattle.zone_values.specs.declared.month.Month.TheVariants.{September}
-use Rattle.zone_values.specs.declared.time.TimeSpec.TheVariants.{Hours, HoursMinutes, HoursMinutesSeconds, Zero}
-use Rattle.zone_values.specs.declared.time.TimeType.TheVariants.{Wall, Standard, UTC}
-use Rattle.zone_values.specs.declared.weekday.Weekday.TheVariants.{Sunday, Friday}
+use Rattle.std.{proofs.Common.{◌≡◌, ℕ, List, [], ◌∷◌, map, true, false, Option, Some, None, Ok, Err, refl, pos, negsuc}, specs.Prelude.{codes}}
+use Rattle.zone_values.specs.{Faults.{refused}, Months.{month_named}, Seconds.{with_type}, Values.{no_saving, multiple}, Weekdays.{weekday_named}, Years.{year_named}, declared.change.ChangeTime.TheVariants.{UntilYear, UntilMonth, UntilDay, UntilTime}}
+use Rattle.zone_values.specs.declared.{day.DaySpec.TheVariants.{Ordinal, Last, LastOnOrBefore, FirstOnOrAfter}, fault.FaultKind.TheVariants.{FailedWeekdayParse, InvalidLineType, TypeColumnContainedNonHyphen, InvalidDaySpec}}
+use Rattle.zone_values.specs.declared.{month.Month.TheVariants.{September}, time.TimeSpec.TheVariants.{Hours, HoursMinutes, HoursMinutesSeconds, Zero}, time.TimeType.TheVariants.{Wall, Standard, UTC}, weekday.Weekday.TheVariants.{Sunday, Friday}}
 use Rattle.zone_values.specs.declared.year.Year.TheVariants.{Maximum, Number}
-use Rattle.zone_line.specs.Clocks.{ClockTexts}
-use Rattle.zone_line.specs.Columns.{InfoTexts}
-use Rattle.zone_line.specs.DayColumns.{DayTexts}
-use Rattle.zone_line.specs.Digits.{two_digits}
-use Rattle.zone_line.specs.Fields.{to_field, type_field, letters_of, day_of_month, day_field, sided_day, last_weekday, wall_field, is_ruleset_name}
-use Rattle.zone_line.specs.LineValues.{saving_field, until, some_end, end_of}
-use Rattle.zone_line.specs.Times.{no_time, hours_alone, clock_time, clock_type, if_wall, time_of}
+use Rattle.basics.specs.Numbers.{signed_in}
+use Rattle.zone_line.specs.{Clocks.{ClockTexts}, Columns.{InfoTexts}, DayColumns.{DayTexts}, Digits.{two_digits}, Fields.{to_field, type_field, letters_of, day_of_month, day_field, sided_day, last_weekday, wall_field, is_ruleset_name}}
+use Rattle.zone_line.specs.{LineValues.{saving_field, until, some_end, end_of}, Times.{no_time, hours_alone, clock_time, clock_type, if_wall, time_of}}
 
 -- the last is U+0661, the digit one of another script
 digits : map two_digits (codes "7" ∷ codes "07" ∷ codes "99" ∷ codes "" ∷ codes "123" ∷ codes "1a" ∷ (217 ∷ 161 ∷ []) ∷ [])

@@ -1,8 +1,6 @@
 -- The parts of a time with a colon, as its named groups take them.
 use Rattle.std.specs.Prelude.{ℕ, List, [], ◌∷◌, Option, Some, None, option_and_then, codes}
-use Rattle.zone_line.specs.Options.{◌>>=◌, first_some}
-use Rattle.zone_line.specs.Patterns.{match_in, group_in}
-use Rattle.zone_line.specs.Texts.{hm_text, hms_text}
+use Rattle.zone_line.specs.{Options.{◌>>=◌, first_some}, Patterns.{match_in, group_in}, Texts.{hm_text, hms_text}}
 
 pub record ClockTexts : Type 0 where
   pub sign : List ℕ

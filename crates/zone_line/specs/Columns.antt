@@ -1,8 +1,6 @@
 -- The texts of the columns of a line, as its named groups take them.
 use Rattle.std.specs.Prelude.{ℕ, List, Option, Some, option_and_then, codes}
-use Rattle.zone_line.specs.Options.{◌>>=◌}
-use Rattle.zone_line.specs.Patterns.{match_in, group_in}
-use Rattle.zone_line.specs.Texts.{zone_text, continuation_text, rule_text, link_text}
+use Rattle.zone_line.specs.{Options.{◌>>=◌}, Patterns.{match_in, group_in}, Texts.{zone_text, continuation_text, rule_text, link_text}}
 
 -- the columns that a Zone line and a continuation share
 pub record InfoTexts : Type 0 where

@@ -1,8 +1,6 @@
 -- The parts of a day with a side, as its named groups take them.
 use Rattle.std.specs.Prelude.{ℕ, List, Option, Some, option_and_then, codes}
-use Rattle.zone_line.specs.Options.{◌>>=◌}
-use Rattle.zone_line.specs.Patterns.{match_in, group_in}
-use Rattle.zone_line.specs.Texts.{day_text}
+use Rattle.zone_line.specs.{Options.{◌>>=◌}, Patterns.{match_in, group_in}, Texts.{day_text}}
 
 pub record DayTexts : Type 0 where
   pub weekday : List ℕ

@@ -1,6 +1,5 @@
 -- Numbers of one or two digits.
-use Rattle.std.specs.Prelude.{ℕ, ◌+◌, ◌-◌, ◌*◌, List, [], ◌∷◌, Option, Some, None, option_and_then, option_map, if◌then◌else◌}
-use Rattle.std.specs.Char.{is_ascii_digit}
+use Rattle.std.specs.{Prelude.{ℕ, ◌+◌, ◌-◌, ◌*◌, List, [], ◌∷◌, Option, Some, None, option_and_then, option_map, if◌then◌else◌}, Char.{is_ascii_digit}}
 
 -- the value of an ASCII digit
 abbrev pub digit_of : ℕ → Option ℕ

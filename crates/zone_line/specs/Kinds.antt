@@ -1,9 +1,6 @@
 -- The kind of a line: the first of the patterns, in their order, that matches it.
 use Rattle.std.specs.Prelude.{ℕ, List, [], ◌∷◌, Bool, Option, Some, None, option_map, is_some, if◌then◌else◌}
-use Rattle.zone_line.specs.Options.{first_some}
-use Rattle.zone_line.specs.Patterns.{match_in}
-use Rattle.zone_line.specs.Texts.{empty_text}
-use Rattle.zone_line.specs.Columns.{ZoneTexts, InfoTexts, RuleTexts, LinkTexts, zone_columns, continuation_columns, rule_columns, link_columns}
+use Rattle.zone_line.specs.{Options.{first_some}, Patterns.{match_in}, Texts.{empty_text}, Columns.{ZoneTexts, InfoTexts, RuleTexts, LinkTexts, zone_columns, continuation_columns, rule_columns, link_columns}}
 
 -- a kind of line, with what the groups of its pattern take
 pub data LineKind : Type 0 where

@@ -1,21 +1,10 @@
 -- The value of a line: tables from the texts of its columns to values; the first fault is the fault.
-use Rattle.std.specs.Prelude.{ℕ, List, Bool, ◌||◌, Option, Some, None, is_some, ok_or, Result, Ok, Err, codes, bytes_eq, if◌then◌else◌}
-use Rattle.std.specs.Option.{option_map_or}
-use Rattle.zone_values.specs.Faults.{Fault, refused}
-use Rattle.zone_values.specs.declared.fault.FaultKind.TheVariants.{InvalidLineType, CouldNotParseSaving, InvalidTimeSpecAndType, NonWallClockInTimeSpec}
-use Rattle.zone_values.specs.Results.{◌>>=◌}
-use Rattle.zone_line.specs.Columns.{InfoTexts, RuleTexts}
-use Rattle.zone_values.specs.Seconds.{with_type}
-use Rattle.zone_line.specs.Clocks.{ClockTexts, minute_clock}
-use Rattle.zone_line.specs.Times.{clock_time, clock_type, if_wall}
-use Rattle.zone_line.specs.Kinds.{LineKind, kind_of}
-use Rattle.zone_line.specs.Kinds as kind
-use Rattle.zone_values.specs.Months.{month_field}
-use Rattle.zone_values.specs.Years.{year_field}
-use Rattle.zone_line.specs.Fields.{to_field, type_field, day_field, time_field, wall_field, letters_of, is_ruleset_name}
-use Rattle.zone_values.specs.Values.{SavingValue, no_saving, one_off, multiple, InfoValue, RuleValue, LineValue, space, zone, continuation, rule, link}
-use Rattle.zone_values.specs.declared.change.ChangeTime.{ChangeTime}
+use Rattle.std.specs.{Prelude.{ℕ, List, Bool, ◌||◌, Option, Some, None, is_some, ok_or, Result, Ok, Err, codes, bytes_eq, if◌then◌else◌}, Option.{option_map_or}}
+use Rattle.zone_values.specs.{Faults.{Fault, refused}, declared.fault.FaultKind.TheVariants.{InvalidLineType, CouldNotParseSaving, InvalidTimeSpecAndType, NonWallClockInTimeSpec}, Results.{◌>>=◌}, Seconds.{with_type}, Months.{month_field}, Years.{year_field}}
+use Rattle.zone_values.specs.{Values.{SavingValue, no_saving, one_off, multiple, InfoValue, RuleValue, LineValue, space, zone, continuation, rule, link}, declared.change.ChangeTime.{ChangeTime}}
 use Rattle.zone_values.specs.declared.change.ChangeTime.TheVariants.{UntilYear, UntilMonth, UntilDay, UntilTime}
+use Rattle.zone_line.specs.{Columns.{InfoTexts, RuleTexts}, Clocks.{ClockTexts, minute_clock}, Times.{clock_time, clock_type, if_wall}, Kinds.{LineKind, kind_of}, Fields.{to_field, type_field, day_field, time_field, wall_field, letters_of, is_ruleset_name}}
+use Rattle.zone_line.specs.Kinds as kind
 
 -- an amount of time by its hours and minutes, which has to be the wall's
 unfoldable pub one_off_of : List ℕ → ClockTexts → Result SavingValue Fault

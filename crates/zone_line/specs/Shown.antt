@@ -1,15 +1,7 @@
 -- What the code's own structs of columns show: the texts that the definitions speak of.
 use Rattle.std.specs.Prelude.{option_map}
-use Rattle.zone_line.specs.Columns.{InfoTexts, ZoneTexts, RuleTexts, LinkTexts}
-use Rattle.zone_line.specs.DayColumns.{DayTexts}
-use Rattle.zone_line.specs.Clocks.{ClockTexts}
-use Rattle.zone_line.specs.Kinds.{LineKind, space, zone, continuation, rule, link}
-use Rattle.zone_line.specs.declared.columns.InfoColumns.{InfoColumns}
-use Rattle.zone_line.specs.declared.columns.ZoneColumns.{ZoneColumns}
-use Rattle.zone_line.specs.declared.columns.RuleColumns.{RuleColumns}
-use Rattle.zone_line.specs.declared.columns.LinkColumns.{LinkColumns}
-use Rattle.zone_line.specs.declared.columns.DayColumns.{DayColumns}
-use Rattle.zone_line.specs.declared.columns.ClockColumns.{ClockColumns}
+use Rattle.zone_line.specs.{Columns.{InfoTexts, ZoneTexts, RuleTexts, LinkTexts}, DayColumns.{DayTexts}, Clocks.{ClockTexts}, Kinds.{LineKind, space, zone, continuation, rule, link}, declared.columns.InfoColumns.{InfoColumns}}
+use Rattle.zone_line.specs.declared.columns.{ZoneColumns.{ZoneColumns}, RuleColumns.{RuleColumns}, LinkColumns.{LinkColumns}, DayColumns.{DayColumns}, ClockColumns.{ClockColumns}}
 use Rattle.zone_line.specs.declared.columns.Kind as code
 use Rattle.zone_line.specs.declared.columns.Kind.TheVariants as kind
 

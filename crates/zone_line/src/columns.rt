@@ -82,8 +82,7 @@ pub(crate) struct MinuteClock<'a>(pub ClockColumns<'a>);
 pub(crate) struct SecondClock<'a>(pub ClockColumns<'a>);
 
 impl InfoColumns<'_> {
-    ghost use Rattle.zone_line.specs.LineValues.{has_yearless_end};
-    ghost use Rattle.zone_line.specs.Shown.{info_shown};
+    ghost use Rattle.zone_line.specs.{LineValues.{has_yearless_end}, Shown.{info_shown}};
 
     /// Whether some column of an end is there, beside the year.
     pub(crate) fn has_yearless_end(&self) -> bool
@@ -110,8 +109,7 @@ pub(crate) trait Columns<'a>: Sized {
 }
 
 impl<'a> Columns<'a> for ZoneColumns<'a> {
-    ghost use Rattle.zone_line.specs.Columns.{ZoneTexts, zone_columns_of};
-    ghost use Rattle.zone_line.specs.Shown.{zone_shown};
+    ghost use Rattle.zone_line.specs.{Columns.{ZoneTexts, zone_columns_of}, Shown.{zone_shown}};
 
     ghost Texts = { ZoneTexts };
 
@@ -129,8 +127,7 @@ impl<'a> Columns<'a> for ZoneColumns<'a> {
 }
 
 impl<'a> Columns<'a> for InfoColumns<'a> {
-    ghost use Rattle.zone_line.specs.Columns.{InfoTexts, info_columns_of};
-    ghost use Rattle.zone_line.specs.Shown.{info_shown};
+    ghost use Rattle.zone_line.specs.{Columns.{InfoTexts, info_columns_of}, Shown.{info_shown}};
 
     ghost Texts = { InfoTexts };
 
@@ -153,8 +150,7 @@ impl<'a> Columns<'a> for InfoColumns<'a> {
 }
 
 impl<'a> Columns<'a> for RuleColumns<'a> {
-    ghost use Rattle.zone_line.specs.Columns.{RuleTexts, rule_columns_of};
-    ghost use Rattle.zone_line.specs.Shown.{rule_shown};
+    ghost use Rattle.zone_line.specs.{Columns.{RuleTexts, rule_columns_of}, Shown.{rule_shown}};
 
     ghost Texts = { RuleTexts };
 
@@ -179,8 +175,7 @@ impl<'a> Columns<'a> for RuleColumns<'a> {
 }
 
 impl<'a> Columns<'a> for LinkColumns<'a> {
-    ghost use Rattle.zone_line.specs.Columns.{LinkTexts, link_columns_of};
-    ghost use Rattle.zone_line.specs.Shown.{link_shown};
+    ghost use Rattle.zone_line.specs.{Columns.{LinkTexts, link_columns_of}, Shown.{link_shown}};
 
     ghost Texts = { LinkTexts };
 
@@ -198,8 +193,7 @@ impl<'a> Columns<'a> for LinkColumns<'a> {
 }
 
 impl<'a> Columns<'a> for DayColumns<'a> {
-    ghost use Rattle.zone_line.specs.DayColumns.{DayTexts, day_columns_of};
-    ghost use Rattle.zone_line.specs.Shown.{day_shown};
+    ghost use Rattle.zone_line.specs.{DayColumns.{DayTexts, day_columns_of}, Shown.{day_shown}};
 
     ghost Texts = { DayTexts };
 
@@ -218,8 +212,7 @@ impl<'a> Columns<'a> for DayColumns<'a> {
 }
 
 impl<'a> Columns<'a> for MinuteClock<'a> {
-    ghost use Rattle.zone_line.specs.Clocks.{ClockTexts, minute_clock_of};
-    ghost use Rattle.zone_line.specs.Shown.{clock_shown};
+    ghost use Rattle.zone_line.specs.{Clocks.{ClockTexts, minute_clock_of}, Shown.{clock_shown}};
 
     ghost Texts = { ClockTexts };
 
@@ -240,8 +233,7 @@ impl<'a> Columns<'a> for MinuteClock<'a> {
 }
 
 impl<'a> Columns<'a> for SecondClock<'a> {
-    ghost use Rattle.zone_line.specs.Clocks.{ClockTexts, second_clock_of};
-    ghost use Rattle.zone_line.specs.Shown.{clock_shown};
+    ghost use Rattle.zone_line.specs.{Clocks.{ClockTexts, second_clock_of}, Shown.{clock_shown}};
 
     ghost Texts = { ClockTexts };
 

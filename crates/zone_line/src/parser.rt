@@ -1,9 +1,7 @@
 //! The patterns, their texts in the syntax of the crate `regex`, and searches for them.
-ghost use Rattle.std.specs.Prelude.{◌≡◌, ℕ, List, None, Some, option_map, MatchOption, IfOk};
-ghost use Rattle.zone_line.specs.Patterns.{captured, IsBuiltFrom, match_in, group_in, Searches};
-ghost use Rattle.std.specs.Borrow.{sem};
+ghost use Rattle.std.specs.{Prelude.{◌≡◌, ℕ, List, None, Some, option_map, MatchOption, IfOk}, Borrow.{sem}};
+ghost use Rattle.zone_line.specs.{Patterns.{captured, IsBuiltFrom, match_in, group_in, Searches}, Texts.{empty_text, zone_text, continuation_text, rule_text, link_text, day_text, hm_text, hms_text}};
 ghost use Rattle.regex.specs.Lending.{KeepsTextPattern};
-ghost use Rattle.zone_line.specs.Texts.{empty_text, zone_text, continuation_text, rule_text, link_text, day_text, hm_text, hms_text};
 
 use crate::reader::LineReader;
 use regex::{Captures, Matcher, Regex};
@@ -105,10 +103,8 @@ pub struct LineParser {
 
 impl LineParser {
     ghost use Rattle.std.specs.Prelude.{IfOk, IsTrue};
-    ghost use Rattle.zone_values.specs.Bounds.{is_bounded_line};
-    ghost use Rattle.zone_values.specs.Faults.{Tells};
+    ghost use Rattle.zone_values.specs.{Bounds.{is_bounded_line}, Faults.{Tells}, Values.{line_value}};
     ghost use Rattle.zone_line.specs.LineValues.{value};
-    ghost use Rattle.zone_values.specs.Values.{line_value};
 
     /// Compiles the patterns of the lines and of their columns, all of them. That each is the one
     /// of its text in `specs/Texts.antt` is kept by the ghost fields of `LineParser`, so this needs

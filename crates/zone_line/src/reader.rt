@@ -1,12 +1,8 @@
 //! The patterns' matchers, for many lines in turn, and the values of the lines and columns that they match.
 ghost use Rattle.std.specs.Prelude.{◌≡◌, ℕ, List, option_map, IfOk, IsTrue};
-ghost use Rattle.zone_line.specs.Patterns.{Searches, found_in};
-ghost use Rattle.zone_line.specs.Texts.{empty_text, zone_text, continuation_text, rule_text, link_text, day_text, hm_text, hms_text};
-ghost use Rattle.zone_values.specs.Faults.{told};
-ghost use Rattle.zone_line.specs.Fields.{sided, sided_day, last_weekday};
-ghost use Rattle.zone_line.specs.LineValues.{one_off_of};
-ghost use Rattle.zone_values.specs.Values.{saving_value};
+ghost use Rattle.zone_line.specs.{Patterns.{Searches, found_in}, Texts.{empty_text, zone_text, continuation_text, rule_text, link_text, day_text, hm_text, hms_text}, Fields.{sided, sided_day, last_weekday}, LineValues.{one_off_of}};
 ghost use Rattle.zone_line.specs.Shown.{clock_shown, day_shown};
+ghost use Rattle.zone_values.specs.{Faults.{told}, Values.{saving_value}};
 
 use crate::columns::{
     ClockColumns, Columns, DayColumns, InfoColumns, Kind, LinkColumns, MinuteClock, RuleColumns,
@@ -17,9 +13,9 @@ use crate::fields::{
     is_ruleset_name, letters_of, no_time, to_field, type_field,
 };
 use crate::parser::{LineParser, matcher};
+use basics::is_numeral;
 use regex::Matcher;
 use std::alloc::{AllocError, Global};
-use basics::is_numeral;
 use zone_values::{
     ChangeTime, DaySpec, Error, Fault, FaultKind, Line, Link, Month, Rule, Saving, TimeSpec,
     TimeSpecAndType, Weekday, Year, Zone, ZoneInfo, value_or_fault,
@@ -47,10 +43,7 @@ pub struct LineReader<'p> {
 }
 
 impl<'p> LineReader<'p> {
-    ghost use Rattle.zone_line.specs.Columns.{zone_columns, continuation_columns, rule_columns, link_columns};
-    ghost use Rattle.zone_line.specs.Clocks.{minute_clock, second_clock};
-    ghost use Rattle.zone_line.specs.DayColumns.{day_columns};
-    ghost use Rattle.zone_line.specs.Kinds.{is_blank};
+    ghost use Rattle.zone_line.specs.{Columns.{zone_columns, continuation_columns, rule_columns, link_columns}, Clocks.{minute_clock, second_clock}, DayColumns.{day_columns}, Kinds.{is_blank}};
     ghost use Rattle.zone_line.specs.Shown.{zone_shown, info_shown, rule_shown, link_shown, clock_shown, day_shown};
 
     /// The matchers of the parser's patterns.
@@ -142,12 +135,8 @@ impl<'p> LineReader<'p> {
 }
 
 impl LineReader<'_> {
-    ghost use Rattle.zone_values.specs.Bounds.{is_bounded_line};
-    ghost use Rattle.zone_values.specs.Faults.{Tells, told};
-    ghost use Rattle.zone_line.specs.Kinds.{kind_of};
-    ghost use Rattle.zone_line.specs.LineValues.{value, value_of_kind, info_of, end_of, until, rule_of};
-    ghost use Rattle.zone_values.specs.Values.{line_value, info_value, rule_value};
-    ghost use Rattle.zone_line.specs.Shown.{info_shown, rule_shown, zone_shown, kind_shown};
+    ghost use Rattle.zone_values.specs.{Bounds.{is_bounded_line}, Faults.{Tells, told}, Values.{line_value, info_value, rule_value}};
+    ghost use Rattle.zone_line.specs.{Kinds.{kind_of}, LineValues.{value, value_of_kind, info_of, end_of, until, rule_of}, Shown.{info_shown, rule_shown, zone_shown, kind_shown}};
 
     /// Reads one line, as `LineParser::parse_str` does.
     ///
@@ -326,13 +315,8 @@ impl LineReader<'_> {
 }
 
 impl LineReader<'_> {
-    ghost use Rattle.zone_line.specs.Clocks.{clock_in};
-    ghost use Rattle.zone_values.specs.Faults.{told};
-    ghost use Rattle.zone_line.specs.Fields.{time_field, wall_field, day_field};
-    ghost use Rattle.zone_line.specs.LineValues.{saving_field};
-    ghost use Rattle.zone_line.specs.Times.{time_of};
-    ghost use Rattle.zone_values.specs.Values.{saving_value};
-    ghost use Rattle.zone_line.specs.Shown.{clock_shown};
+    ghost use Rattle.zone_line.specs.{Clocks.{clock_in}, Fields.{time_field, wall_field, day_field}, LineValues.{saving_field}, Times.{time_of}, Shown.{clock_shown}};
+    ghost use Rattle.zone_values.specs.{Faults.{told}, Values.{saving_value}};
 
     /// The parts of a time with one colon or two.
     fn clock<'a>(&mut self, text: &'a str) -> Option<ClockColumns<'a>>

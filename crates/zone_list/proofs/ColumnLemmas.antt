@@ -1,16 +1,7 @@
 -- A column's text, padded on its side: how long it is, and that it is what the definitions say.
-use Rattle.std.proofs.Common.{◌≡◌, ℕ, ◌+◌, ◌-◌, List, ◌++◌, length, ap, ◌∙◌, arith, lit<}
-use Rattle.std.specs.Prelude.{encode_utf8}
-use Rattle.std.specs.Fmt.{char_count}
-use Rattle.std.proofs.lemmas.List.{append-nil}
-use Rattle.std.proofs.lemmas.Str.{encode_ascii}
-use Rattle.std.specs.List.{repeat}
-use Rattle.pad_fmt.specs.Padding.{padded}
-use Rattle.pad_fmt.specs.PaddingLaws.{length-padded}
-use Rattle.pad_fmt.specs.declared.options.Alignment.{Alignment}
-use Rattle.pad_fmt.specs.declared.options.Alignment.TheVariants.{Left, Right}
-use Rattle.zone_list.specs.Columns.{on_side}
-use Rattle.zone_list.specs.Rows.{on_the_left, on_the_right, spaces}
+use Rattle.std.{proofs.Common.{◌≡◌, ℕ, ◌+◌, ◌-◌, List, ◌++◌, length, ap, ◌∙◌, arith, lit<}, specs.Prelude.{encode_utf8}, specs.Fmt.{char_count}, proofs.lemmas.List.{append-nil}, proofs.lemmas.Str.{encode_ascii}, specs.List.{repeat}}
+use Rattle.pad_fmt.specs.{Padding.{padded}, PaddingLaws.{length-padded}, declared.options.Alignment.{Alignment}, declared.options.Alignment.TheVariants.{Left, Right}}
+use Rattle.zone_list.specs.{Columns.{on_side}, Rows.{on_the_left, on_the_right, spaces}}
 
 pub length_column : (side : Alignment) (width count : ℕ) (text : List ℕ)
     → length (padded Left (on_side side width) count text) ≡ length text + (width - count)

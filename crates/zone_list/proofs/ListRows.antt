@@ -1,15 +1,10 @@
 -- Windows, rows, dates and words, at worked rows.
-use Rattle.std.proofs.Common.{◌≡◌, ℕ, List, [], ◌∷◌, ◌++◌, map, true, false, Some, None, refl, ℤ, pos, negsuc}
-use Rattle.std.specs.Prelude.{codes}
-use Rattle.std.specs.Fmt.{char_count, digits}
+use Rattle.std.{proofs.Common.{◌≡◌, ℕ, List, [], ◌∷◌, ◌++◌, map, true, false, Some, None, refl, ℤ, pos, negsuc}, specs.Prelude.{codes}, specs.Fmt.{char_count, digits}}
 use Rattle.civil_base.specs.Layout.{zoned_text}
 use Rattle.tz_zone.specs.declared.set.FixedTimespanSet.{FixedTimespanSet}
 use Rattle.zone_source.specs.LineLists.{ended}
 use Rattle.zone_spans.specs.Entries.{Entry}
-use Rattle.zone_list.specs.Asks.{asks, form}
-use Rattle.zone_list.specs.Ranges.{all_have_dates, has_dates}
-use Rattle.zone_list.specs.Rows.{row, rows}
-use Rattle.zone_list.specs.Windows.{window, within}
+use Rattle.zone_list.specs.{Asks.{asks, form}, Ranges.{all_have_dates, has_dates}, Rows.{row, rows}, Windows.{window, within}}
 
 abbrev entry : ℤ → ℤ → ℤ → List ℕ → Entry
 entry time offset saving name = (time, record { utc_offset = offset; dst_offset = saving; name = name })

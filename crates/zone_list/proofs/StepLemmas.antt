@@ -1,22 +1,10 @@
 -- A window entry by entry: what lies within of those from a place on.
 use Rattle.std.proofs.Common.{◌≡◌, ℕ, zero, suc, ◌+◌, ◌<◌, Bool, true, false, List, [], ◌∷◌, ◌++◌, length, map, drop, refl, sym, ap, ◌∙◌, append_assoc, arith, ℤ, pos}
-use Rattle.std.specs.Fmt.{char_count}
-use Rattle.std.specs.List.{slice_index_or}
-use Rattle.std.specs.Prelude.{◌&&◌, max, Option, Some, None, IfSome}
-use Rattle.civil_base.specs.DateTimes.{instant, offset_of}
-use Rattle.civil_base.specs.Instants.{local_at, nanos_of}
-use Rattle.civil_base.specs.Ranges.{is_in_years}
-use Rattle.civil_base.specs.declared.offset_date_time.OffsetDateTime.{OffsetDateTime}
-use Rattle.zone_spans.specs.Entries.{Entry, total}
-use Rattle.zone_spans.specs.declared.span.FixedTimespan.{FixedTimespan}
-use Rattle.tz_zone.specs.Sets.{shift_of, total_of_span}
-use Rattle.tz_zone.specs.Spans.{shift_at}
-use Rattle.tz_zone.specs.declared.set.FixedTimespanSet.{FixedTimespanSet}
-use Rattle.zone_list.specs.Ranges.{all_have_dates, has_dates}
-use Rattle.zone_list.specs.Rows.{row, widest}
-use Rattle.zone_list.specs.ShownEntries.{IsShownAs}
-use Rattle.zone_list.specs.Windows.{entry_at, is_within, within}
-use Rattle.zone_list.proofs.WindowLaws.{one_more, no_more}
+use Rattle.std.specs.{Fmt.{char_count}, List.{slice_index_or}, Prelude.{◌&&◌, max, Option, Some, None, IfSome}}
+use Rattle.civil_base.specs.{DateTimes.{instant, offset_of}, Instants.{local_at, nanos_of}, Ranges.{is_in_years}, declared.offset_date_time.OffsetDateTime.{OffsetDateTime}}
+use Rattle.zone_spans.specs.{Entries.{Entry, total}, declared.span.FixedTimespan.{FixedTimespan}}
+use Rattle.tz_zone.specs.{Sets.{shift_of, total_of_span}, Spans.{shift_at}, declared.set.FixedTimespanSet.{FixedTimespanSet}}
+use Rattle.zone_list.{specs.Ranges.{all_have_dates, has_dates}, specs.Rows.{row, widest}, specs.ShownEntries.{IsShownAs}, specs.Windows.{entry_at, is_within, within}, proofs.WindowLaws.{one_more, no_more}}
 
 -- what is left of a window from a place on
 abbrev pub left : ℤ → ℤ → FixedTimespanSet → ℕ → List Entry

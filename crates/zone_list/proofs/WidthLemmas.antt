@@ -1,15 +1,8 @@
 -- How wide a number and a list of texts are.
-use Rattle.std.proofs.Common.{◌≡◌, ℤ, pos, negsuc, suc, ◌+◌, ◌^◌, ◌<◌, length, ap, sym, true, false, ◌∙◌, arith, zero-add}
-use Rattle.std.specs.Fmt.{char_count, decimal, signed_decimal}
-use Rattle.std.specs.Int.{is_negative}
-use Rattle.std.specs.Int.Signed.{mag}
-use Rattle.std.proofs.lemmas.Fmt.{IsAscii-signed}
-use Rattle.std.proofs.lemmas.Int.{ints}
+use Rattle.std.proofs.{Common.{◌≡◌, ℤ, pos, negsuc, suc, ◌+◌, ◌^◌, ◌<◌, length, ap, sym, true, false, ◌∙◌, arith, zero-add}, lemmas.Fmt.{IsAscii-signed}, lemmas.Int.{ints}}
+use Rattle.std.specs.{Fmt.{char_count, decimal, signed_decimal}, Int.{is_negative}, Int.Signed.{mag}}
 use Rattle.basics.specs.ComparisonLaws.{lt_fail, lt_pass}
-use Rattle.pad_fmt.specs.Number.{sign_text, signed_width}
-use Rattle.pad_fmt.specs.Options.{default_options}
-use Rattle.pad_fmt.specs.Padding.{padded_width}
-use Rattle.pad_fmt.specs.TextLaws.{char_count-ascii}
+use Rattle.pad_fmt.specs.{Number.{sign_text, signed_width}, Options.{default_options}, Padding.{padded_width}, TextLaws.{char_count-ascii}}
 
 length_of_number : (z : ℤ) → padded_width (signed_width z default_options) default_options ≡ length (signed_decimal z)
 length_of_number (pos n) =

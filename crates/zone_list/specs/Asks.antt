@@ -1,11 +1,8 @@
 -- What the words of the program ask of a zone.
 use Rattle.std.specs.Prelude.{ℕ, List, [], ◌∷◌, Option, Some, None, option_map, ℤ, codes, if◌then◌else◌}
-use Rattle.zone_run.specs.Asked.{Asked}
-use Rattle.zone_run.specs.Numbers.{number_in}
+use Rattle.zone_run.specs.{Asked.{Asked}, Numbers.{number_in}}
 use Rattle.zone_source.specs.LineLists.{ended}
-use Rattle.zone_list.specs.Ranges.{all_have_dates}
-use Rattle.zone_list.specs.Rows.{rows}
-use Rattle.zone_list.specs.Windows.{window}
+use Rattle.zone_list.specs.{Ranges.{all_have_dates}, Rows.{rows}, Windows.{window}}
 
 -- the rows of a window, each followed by a line feed; it is refused where an entry of the window has no dates
 abbrev pub asks : ℤ → ℤ → Asked

@@ -1,7 +1,6 @@
 -- How columns are asked for.
 use Rattle.std.specs.Prelude.{ℕ, Some}
-use Rattle.pad_fmt.specs.Options.{Options, default_options}
-use Rattle.pad_fmt.specs.declared.options.Alignment.{Alignment}
+use Rattle.pad_fmt.specs.{Options.{Options, default_options}, declared.options.Alignment.{Alignment}}
 
 -- on a side of so many characters
 abbrev pub on_side : Alignment → ℕ → Options

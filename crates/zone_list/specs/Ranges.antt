@@ -1,8 +1,6 @@
 -- Which entries have dates.
-use Rattle.std.specs.Prelude.{Bool, ◌&&◌, List}
-use Rattle.std.specs.List.{list_all}
-use Rattle.civil_base.specs.Instants.{local_at, nanos_of}
-use Rattle.civil_base.specs.Ranges.{is_in_years}
+use Rattle.std.specs.{Prelude.{Bool, ◌&&◌, List}, List.{list_all}}
+use Rattle.civil_base.specs.{Instants.{local_at, nanos_of}, Ranges.{is_in_years}}
 use Rattle.zone_spans.specs.Entries.{Entry, total}
 
 -- the UTC date of the entry's time and its local date at its own total lie in the years -9999 to 9999

@@ -1,9 +1,6 @@
 -- The rows of entries, in columns.
-use Rattle.std.specs.Prelude.{ℕ, ◌-◌, max, List, [], ◌∷◌, ◌++◌, map, codes}
-use Rattle.std.specs.Fmt.{char_count, signed_decimal}
-use Rattle.std.specs.List.{repeat}
-use Rattle.civil_base.specs.Instants.{nanos_of}
-use Rattle.civil_base.specs.Layout.{zoned_text}
+use Rattle.std.specs.{Prelude.{ℕ, ◌-◌, max, List, [], ◌∷◌, ◌++◌, map, codes}, Fmt.{char_count, signed_decimal}, List.{repeat}}
+use Rattle.civil_base.specs.{Instants.{nanos_of}, Layout.{zoned_text}}
 use Rattle.zone_spans.specs.Entries.{Entry, total}
 
 -- so many spaces

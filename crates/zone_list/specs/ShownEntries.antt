@@ -1,8 +1,6 @@
 -- The date-time that an entry is shown as.
 use Rattle.std.specs.Prelude.{◌≡◌}
-use Rattle.civil_base.specs.DateTimes.{instant, offset_of}
-use Rattle.civil_base.specs.Instants.{nanos_of}
-use Rattle.civil_base.specs.declared.offset_date_time.OffsetDateTime.{OffsetDateTime}
+use Rattle.civil_base.specs.{DateTimes.{instant, offset_of}, Instants.{nanos_of}, declared.offset_date_time.OffsetDateTime.{OffsetDateTime}}
 use Rattle.zone_spans.specs.Entries.{Entry, total}
 
 -- the instant of the entry's time, at the entry's own total

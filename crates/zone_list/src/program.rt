@@ -1,11 +1,8 @@
 //! The program: its words, its answer, its run.
-ghost use Rattle.std.specs.Prelude.{◌<◌, codes};
-ghost use Rattle.std.specs.Option.{ForSome};
-ghost use Rattle.zone_list.specs.Asks.{asks, form};
-ghost use Rattle.zone_run.specs.Ends.{Ends};
+ghost use Rattle.std.specs.{Prelude.{◌<◌, codes}, Option.{ForSome}};
+ghost use Rattle.zone_list.specs.{Asks.{asks, form}, Starts.{StartsList}};
+ghost use Rattle.zone_run.specs.{Ends.{Ends}, Tasks.{task_of}};
 ghost use Rattle.zone_source.specs.Runs.{seen};
-ghost use Rattle.zone_run.specs.Tasks.{task_of};
-ghost use Rattle.zone_list.specs.Starts.{StartsList};
 
 use crate::listing::{ListFault, lines_of};
 use crate::window::Window;

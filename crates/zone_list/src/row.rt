@@ -1,15 +1,8 @@
 //! The row of an entry.
-ghost use Rattle.std.specs.Prelude.{◌≡◌, ◌<◌, ◌++◌, IfSome, OnOk, is_some, length};
-ghost use Rattle.civil_base.specs.DateTimes.{instant, offset_of as offset_shown};
-ghost use Rattle.civil_base.specs.Layout.{zoned_text};
-ghost use Rattle.std.specs.Fmt.{char_count};
-ghost use Rattle.pad_fmt.specs.Padding.{padded};
-ghost use Rattle.pad_fmt.specs.declared.options.Alignment.TheVariants.{Left};
-ghost use Rattle.zone_list.specs.Ranges.{has_dates};
-ghost use Rattle.zone_list.specs.Rows.{on_the_left, on_the_right, row};
-ghost use Rattle.zone_list.specs.Columns.{on_side};
-ghost use Rattle.zone_list.specs.ShownEntries.{IsShownAs};
-ghost use Rattle.zone_list.specs.Windows.{entry_at};
+ghost use Rattle.std.specs.{Prelude.{◌≡◌, ◌<◌, ◌++◌, IfSome, OnOk, is_some, length}, Fmt.{char_count}};
+ghost use Rattle.civil_base.specs.{DateTimes.{instant, offset_of as offset_shown}, Layout.{zoned_text}};
+ghost use Rattle.pad_fmt.specs.{Padding.{padded}, declared.options.Alignment.TheVariants.{Left}};
+ghost use Rattle.zone_list.specs.{Ranges.{has_dates}, Rows.{on_the_left, on_the_right, row}, Columns.{on_side}, ShownEntries.{IsShownAs}, Windows.{entry_at}};
 ghost use Rattle.tz_zone.specs.Sets.{schedule_of, IsAccepted};
 
 use crate::row_text::RowText;

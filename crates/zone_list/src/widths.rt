@@ -1,8 +1,6 @@
 //! How wide the columns are.
-ghost use Rattle.std.specs.Prelude.{◌≡◌, ◌<◌, length, map, max};
-ghost use Rattle.std.specs.Fmt.{char_count, signed_decimal};
-ghost use Rattle.zone_list.specs.Rows.{name_of, time_of, widest};
-ghost use Rattle.zone_list.specs.Windows.{entry_at, window};
+ghost use Rattle.std.specs.{Prelude.{◌≡◌, ◌<◌, length, map, max}, Fmt.{char_count, signed_decimal}};
+ghost use Rattle.zone_list.specs.{Rows.{name_of, time_of, widest}, Windows.{entry_at, window}};
 
 use crate::window::{Window, is_within};
 use pad_fmt::{FormatterOptions, char_count, padded_width_of};

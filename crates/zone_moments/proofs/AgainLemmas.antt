@@ -1,19 +1,10 @@
 -- What is spelled is read, whatever follows.
-use Rattle.std.proofs.Common.{◌≡◌, refl, ap, ◌∙◌, arith, ℕ, ◌+◌, ◌-◌, ◌*◌, ◌/◌, ◌%◌, ◌<◌, ◌||◌, Bool, true, false, nat_eq, nat_lt}
-use Rattle.std.proofs.Common.{List, [], ◌∷◌, ◌++◌, length, append_assoc, append-nil, Some, Ok, ℤ}
-use Rattle.std.proofs.lemmas.Bool.{and_parts}
-use Rattle.std.proofs.lemmas.Bool.Decides.{nat_tests}
-use Rattle.std.proofs.lemmas.List.{take_at, drop_at}
-use Rattle.std.specs.Char.{is_ascii_digit}
-use Rattle.std.specs.List.{prefix_len, list_all}
-use Rattle.civil_base.specs.Layout.{two_digits, four_digits}
-use Rattle.civil_base.specs.DigitLaws.{four_digits-halves}
-use Rattle.zone_moments.specs.Numbers.{is_separator, fraction_of, moment}
-use Rattle.zone_moments.specs.Pieces.{digit_at, two_at, four_at, date_at, minute_at, second_at, run_of, after_run}
-use Rattle.zone_moments.specs.Readings.{digits_at, fraction_at, front_at, seconds_at, moment_in, local_in, is_date, is_time}
-use Rattle.zone_moments.specs.Spells.{SpellsDate, date, SpellsMinute, minute, AreFraction, SpellsFraction, whole, digits, time, Exist}
-use Rattle.zone_moments.specs.Spells.{SpellsLocal, to_minute, to_second}
-use Rattle.zone_moments.specs.declared.form.WrittenDate.{WrittenDate}
+use Rattle.std.proofs.{Common.{◌≡◌, refl, ap, ◌∙◌, arith, ℕ, ◌+◌, ◌-◌, ◌*◌, ◌/◌, ◌%◌, ◌<◌, ◌||◌, Bool, true, false, nat_eq, nat_lt}, Common.{List, [], ◌∷◌, ◌++◌, length, append_assoc, append-nil, Some, Ok, ℤ}, lemmas.Bool.{and_parts}}
+use Rattle.std.proofs.lemmas.{Bool.Decides.{nat_tests}, List.{take_at, drop_at}}
+use Rattle.std.specs.{Char.{is_ascii_digit}, List.{prefix_len, list_all}}
+use Rattle.civil_base.specs.{Layout.{two_digits, four_digits}, DigitLaws.{four_digits-halves}}
+use Rattle.zone_moments.specs.{Numbers.{is_separator, fraction_of, moment}, Pieces.{digit_at, two_at, four_at, date_at, minute_at, second_at, run_of, after_run}, Readings.{digits_at, fraction_at, front_at, seconds_at, moment_in, local_in, is_date, is_time}}
+use Rattle.zone_moments.specs.{Spells.{SpellsDate, date, SpellsMinute, minute, AreFraction, SpellsFraction, whole, digits, time, Exist}, Spells.{SpellsLocal, to_minute, to_second}, declared.form.WrittenDate.{WrittenDate}}
 use Rattle.zone_moments.specs.declared.form.WrittenTime.{WrittenTime}
 
 pub digit_again : (n : ℕ) → n < 10 → (rest : List ℕ) → digit_at ((48 + n) ∷ rest) ≡ Some (n, rest)

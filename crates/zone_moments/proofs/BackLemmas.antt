@@ -1,35 +1,15 @@
 -- What is written is read again.
 use Rattle.std.proofs.Common.{◌≡◌, refl, sym, ap, subst, ◌∙◌, arith, ℕ, suc, ◌+◌, ◌-◌, ◌*◌, ◌/◌, ◌%◌, ◌^◌, ◌<◌, ◌≤◌, Bool, true, false, ◌&&◌, cond}
-use Rattle.std.proofs.Common.{List, [], ◌∷◌, ◌++◌, length, length-append, append_assoc, ℤ, pos, ◌≤ℤ◌, ◌+ℤ◌, ◌*ℤ◌, int_lt, unsigned_abs, if◌then◌else◌, decimal}
-use Rattle.std.proofs.lemmas.Bool.{and_parts, and_from}
-use Rattle.std.proofs.lemmas.Bool.Decides.{nat_tests}
-use Rattle.std.proofs.lemmas.Fmt.{decimal_by_steps}
-use Rattle.std.specs.Char.{is_ascii_digit}
-use Rattle.std.specs.List.{list_all}
-use Rattle.basics.specs.Days.{day, IsDate}
-use Rattle.basics.specs.Dates.{year_of, month_of, day_of}
-use Rattle.basics.specs.MonthLaws.{days_in_month-bounds}
-use Rattle.basics.specs.SignedLaws.{signed, one_sided, natural}
-use Rattle.civil_base.specs.Clock.{nanos_per_day, hour_of, minute_of, second_of, nanosecond_of, time_at}
-use Rattle.civil_base.specs.ClockLaws.{clock_parts, time_at-parts}
-use Rattle.civil_base.specs.DayLaws.{date_of-day}
-use Rattle.civil_base.specs.DigitLaws.{four_digits-halves, nine_digits-parts}
-use Rattle.civil_base.specs.Instants.{instant_at}
-use Rattle.civil_base.specs.Layout.{digit, two_digits, four_digits, nine_digits, year_sign, date_digits, day_part, time_part}
-use Rattle.civil_base.specs.LayoutLaws.{year_sign-other}
-use Rattle.civil_base.specs.Offsets.{signed_by}
-use Rattle.civil_base.specs.OffsetLaws.{signed_by-size}
-use Rattle.civil_base.specs.PartLaws.{day_part-inside, time_part-inside, parts-joined}
-use Rattle.civil_base.specs.Ranges.{IsInYears}
-use Rattle.civil_base.specs.RangeLaws.{years_near}
+use Rattle.std.proofs.{Common.{List, [], ◌∷◌, ◌++◌, length, length-append, append_assoc, ℤ, pos, ◌≤ℤ◌, ◌+ℤ◌, ◌*ℤ◌, int_lt, unsigned_abs, if◌then◌else◌, decimal}, lemmas.Bool.{and_parts, and_from}, lemmas.Bool.Decides.{nat_tests}, lemmas.Fmt.{decimal_by_steps}}
+use Rattle.std.specs.{Char.{is_ascii_digit}, List.{list_all}}
+use Rattle.basics.specs.{Days.{day, IsDate}, Dates.{year_of, month_of, day_of}, MonthLaws.{days_in_month-bounds}, SignedLaws.{signed, one_sided, natural}}
+use Rattle.civil_base.specs.{Clock.{nanos_per_day, hour_of, minute_of, second_of, nanosecond_of, time_at}, ClockLaws.{clock_parts, time_at-parts}, DayLaws.{date_of-day}, DigitLaws.{four_digits-halves, nine_digits-parts}, Instants.{instant_at}}
+use Rattle.civil_base.specs.{Layout.{digit, two_digits, four_digits, nine_digits, year_sign, date_digits, day_part, time_part}, LayoutLaws.{year_sign-other}, Offsets.{signed_by}, OffsetLaws.{signed_by-size}}
+use Rattle.civil_base.specs.{PartLaws.{day_part-inside, time_part-inside, parts-joined}, Ranges.{IsInYears}, RangeLaws.{years_near}}
 use Rattle.zone_moments.proofs.NumberLemmas.{ten_times}
-use Rattle.zone_moments.specs.Numbers.{number_after, moment, seconds_east, counted}
-use Rattle.zone_moments.specs.Spells.{SpellsDate, date, minute, SpellsFraction, whole, digits, SpellsTime, time, Exist}
-use Rattle.zone_moments.specs.Spells.{SpellsLocal, to_second, SpellsOffset, east, west, AreDigits, SpellsInstant, since, before, zoned}
-use Rattle.zone_moments.specs.Written.{is_zero, shortest, pointed, fraction_text, clock_text, moment_text, offset_shown, rfc3339_text, epoch_text}
-use Rattle.zone_moments.specs.declared.form.WrittenDate.{WrittenDate}
-use Rattle.zone_moments.specs.declared.form.WrittenTime.{WrittenTime}
-use Rattle.zone_moments.specs.declared.form.WrittenOffset.{WrittenOffset}
+use Rattle.zone_moments.specs.{Numbers.{number_after, moment, seconds_east, counted}, Spells.{SpellsDate, date, minute, SpellsFraction, whole, digits, SpellsTime, time, Exist}}
+use Rattle.zone_moments.specs.{Spells.{SpellsLocal, to_second, SpellsOffset, east, west, AreDigits, SpellsInstant, since, before, zoned}, Written.{is_zero, shortest, pointed, fraction_text, clock_text, moment_text, offset_shown, rfc3339_text, epoch_text}}
+use Rattle.zone_moments.specs.declared.form.{WrittenDate.{WrittenDate}, WrittenTime.{WrittenTime}, WrittenOffset.{WrittenOffset}}
 
 -- numbers by their digits
 

@@ -1,15 +1,7 @@
 -- A text is read as what it spells, and as nothing where it spells nothing.
-use Rattle.std.proofs.Common.{◌≡◌, ℕ, ℤ, List, Result, Ok, Err, MatchResult, Option, sym, ◌∙◌}
-use Rattle.zone_moments.proofs.AgainLemmas.{local_again}
-use Rattle.zone_moments.proofs.FoundLemmas.{local_found, ok_not_err, same_Ok}
-use Rattle.zone_moments.proofs.InstantAgainLemmas.{asked_again}
-use Rattle.zone_moments.proofs.InstantFoundLemmas.{asked_found}
-use Rattle.zone_moments.specs.Shown.{asked}
-use Rattle.zone_moments.specs.declared.instant.Asked.{Asked}
-use Rattle.std.specs.Result.{result_map_both}
-use Rattle.zone_moments.specs.Readings.{local_in, asked_in}
-use Rattle.zone_moments.specs.Spells.{SpellsLocal, SpellsAsked}
-use Rattle.zone_moments.specs.declared.fault.TextFault.{TextFault}
+use Rattle.std.{proofs.Common.{◌≡◌, ℕ, ℤ, List, Result, Ok, Err, MatchResult, Option, sym, ◌∙◌}, specs.Result.{result_map_both}}
+use Rattle.zone_moments.proofs.{AgainLemmas.{local_again}, FoundLemmas.{local_found, ok_not_err, same_Ok}, InstantAgainLemmas.{asked_again}, InstantFoundLemmas.{asked_found}}
+use Rattle.zone_moments.specs.{Shown.{asked}, declared.instant.Asked.{Asked}, Readings.{local_in, asked_in}, Spells.{SpellsLocal, SpellsAsked}, declared.fault.TextFault.{TextFault}}
 
 pub local_exact : (text : List ℕ) (r : Result ℤ TextFault) → r ≡ local_in text
     → MatchResult r (SpellsLocal text) (λ _. (x : ℤ) → ¬ (SpellsLocal text x))

@@ -1,29 +1,15 @@
 -- What is read is spelled.
 use Rattle.std.proofs.Common.{◌≡◌, refl, sym, ap, subst, ◌∙◌, arith, ℕ, ◌+◌, ◌-◌, ◌*◌, ◌/◌, ◌%◌, ◌<◌, ◌⊎◌, inl, inr, Bool, true, false, cond, nat_eq, nat_lt}
-use Rattle.std.proofs.Common.{List, [], ◌∷◌, ◌++◌, length, append_assoc, append-nil, eqb-true, Option, Some, None, Result, Ok, Err, ok_or, ℤ, pos}
-use Rattle.std.proofs.lemmas.Bool.Decides.{nat_tests}
-use Rattle.std.proofs.lemmas.List.{take-append-drop, nil_from_length}
+use Rattle.std.proofs.{Common.{List, [], ◌∷◌, ◌++◌, length, append_assoc, append-nil, eqb-true, Option, Some, None, Result, Ok, Err, ok_or, ℤ, pos}, lemmas.Bool.Decides.{nat_tests}, lemmas.List.{take-append-drop, nil_from_length}}
 use Rattle.std.proofs.lemmas.Option.{cond_some, same_Some, none-some}
-use Rattle.std.specs.Char.{is_ascii_digit}
-use Rattle.std.specs.List.{prefix_len}
-use Rattle.std.specs.Option.{option_map_or}
-use Rattle.basics.specs.Days.{IsDate}
-use Rattle.civil_base.specs.Clock.{IsClockTime}
-use Rattle.basics.specs.LogicLaws.{bind_some}
-use Rattle.basics.specs.Marks.{after_mark}
-use Rattle.civil_base.specs.Layout.{two_digits, four_digits}
-use Rattle.civil_base.specs.DigitLaws.{four_digits-halves}
+use Rattle.std.specs.{Char.{is_ascii_digit}, List.{prefix_len}, Option.{option_map_or}, Result.{result_unwrap_or}}
+use Rattle.basics.specs.{Days.{IsDate}, LogicLaws.{bind_some}, Marks.{after_mark}}
+use Rattle.civil_base.specs.{Clock.{IsClockTime}, Layout.{two_digits, four_digits}, DigitLaws.{four_digits-halves}}
 use Rattle.zone_moments.proofs.NumberLemmas.{run_passes}
-use Rattle.zone_moments.specs.Numbers.{is_separator, fraction_of, moment}
-use Rattle.zone_moments.specs.Pieces.{digit_at, two_at, four_at, date_at, separator_at, minute_at, second_at, run_of, after_run}
+use Rattle.zone_moments.specs.{Numbers.{is_separator, fraction_of, moment}, Pieces.{digit_at, two_at, four_at, date_at, separator_at, minute_at, second_at, run_of, after_run}}
 use Rattle.zone_moments.specs.Readings.{digits_at, fraction_at, time_cause, front_at, seconds_at, moment_in, after_time, local_in, is_date, is_time, ended, ◌>>=◌}
-use Rattle.zone_moments.specs.Spells.{SpellsDate, date, SpellsMinute, minute, AreFraction, SpellsFraction, whole, digits, SpellsTime, time, Exist}
-use Rattle.zone_moments.specs.Spells.{SpellsLocal, to_minute, to_second}
-use Rattle.zone_moments.specs.declared.fault.TextFault.{TextFault}
-use Rattle.zone_moments.specs.declared.fault.TextFault.TheVariants.{DateMissing, TimeMissing, SecondMissing, FractionMissing, TooFine, NoSuchDate, NoSuchTime}
-use Rattle.zone_moments.specs.declared.form.WrittenDate.{WrittenDate}
-use Rattle.zone_moments.specs.declared.form.WrittenTime.{WrittenTime}
-use Rattle.std.specs.Result.{result_unwrap_or}
+use Rattle.zone_moments.specs.{Spells.{SpellsDate, date, SpellsMinute, minute, AreFraction, SpellsFraction, whole, digits, SpellsTime, time, Exist}, Spells.{SpellsLocal, to_minute, to_second}, declared.fault.TextFault.{TextFault}}
+use Rattle.zone_moments.specs.declared.{fault.TextFault.TheVariants.{DateMissing, TimeMissing, SecondMissing, FractionMissing, TooFine, NoSuchDate, NoSuchTime}, form.WrittenDate.{WrittenDate}, form.WrittenTime.{WrittenTime}}
 
 -- a text of the value stands at the front, before the rest
 pub data Takes {V : Type 0} (Is : List ℕ → V → Type 0) : List ℕ → V → List ℕ → Type 0 where

@@ -1,26 +1,13 @@
 -- Instants that are spelled are read.
-use Rattle.std.proofs.Common.{◌≡◌, refl, sym, ap, ◌∙◌, arith, ℕ, ◌+◌, ◌*◌, ◌/◌, ◌%◌, ◌^◌, ◌<◌, Bool, true, false, nat_eq, bytes_eq, min}
-use Rattle.std.proofs.Common.{List, [], ◌∷◌, ◌++◌, length, append_assoc, append-nil, Option, Some, None, Ok, ℤ, pos, neg_ℤ, codes}
-use Rattle.std.proofs.lemmas.Bool.{and_parts}
-use Rattle.std.proofs.lemmas.Bool.Decides.{nat_tests}
-use Rattle.std.proofs.Math.Nat.{min-eq_left}
-use Rattle.std.specs.Char.{is_ascii_digit}
-use Rattle.std.specs.List.{list_all}
-use Rattle.basics.specs.Marks.{after_mark}
-use Rattle.basics.specs.SignedLaws.{signed}
-use Rattle.civil_base.specs.Instants.{instant_at}
-use Rattle.civil_base.specs.Layout.{two_digits}
-use Rattle.civil_base.specs.Ranges.{IsInYears}
-use Rattle.civil_base.specs.RangeLaws.{years_begin, years_end}
+use Rattle.std.proofs.Common.{◌≡◌, refl, sym, ap, ◌∙◌, arith, ℕ, ◌+◌, ◌*◌, ◌/◌, ◌%◌, ◌^◌, ◌<◌, Bool, true, false, nat_eq, bytes_eq, min, List, [], ◌∷◌, ◌++◌, length, append_assoc, append-nil, Option, Some, None, Ok, ℤ, pos, neg_ℤ, codes}
+use Rattle.std.proofs.{lemmas.Bool.{and_parts}, lemmas.Bool.Decides.{nat_tests}, Math.Nat.{min-eq_left}}
+use Rattle.std.specs.{Char.{is_ascii_digit}, List.{list_all}}
+use Rattle.basics.specs.{Marks.{after_mark}, SignedLaws.{signed}}
+use Rattle.civil_base.specs.{Instants.{instant_at}, Layout.{two_digits}, Ranges.{IsInYears}, RangeLaws.{years_begin, years_end}}
 use Rattle.zone_moments.proofs.AgainLemmas.{begins, goes_on, front_again, seconds_again, minute_again, moment_again, fraction_again, run_again, no_digit}
-use Rattle.zone_moments.specs.Numbers.{is_separator, moment, seconds_east, counted}
-use Rattle.zone_moments.specs.Pieces.{offset_at}
-use Rattle.zone_moments.specs.Readings.{zoned_at, zoned_in, size_at, count_at, count_in, count_of, counted_in, written_in, instant_in, asked_in, in_years, is_offset}
-use Rattle.zone_moments.specs.Spells.{SpellsDate, date, SpellsMinute, minute, SpellsFraction, whole, digits, time, Exist, SpellsOffset, utc, east, west}
-use Rattle.zone_moments.specs.Spells.{AreDigits, SpellsInstant, since, before, zoned, SpellsAsked, now, instant}
-use Rattle.zone_moments.specs.declared.form.WrittenDate.{WrittenDate}
-use Rattle.zone_moments.specs.declared.form.WrittenTime.{WrittenTime}
-use Rattle.zone_moments.specs.declared.form.WrittenOffset.{WrittenOffset}
+use Rattle.zone_moments.specs.{Numbers.{is_separator, moment, seconds_east, counted}, Pieces.{offset_at}, Readings.{zoned_at, zoned_in, size_at, count_at, count_in, count_of, counted_in, written_in, instant_in, asked_in, in_years, is_offset}}
+use Rattle.zone_moments.specs.Spells.{SpellsDate, date, SpellsMinute, minute, SpellsFraction, whole, digits, time, Exist, SpellsOffset, utc, east, west, AreDigits, SpellsInstant, since, before, zoned, SpellsAsked, now, instant}
+use Rattle.zone_moments.specs.declared.form.{WrittenDate.{WrittenDate}, WrittenTime.{WrittenTime}, WrittenOffset.{WrittenOffset}}
 
 offset_again : {z : List ℕ} {o : WrittenOffset} → SpellsOffset z o → (rest : List ℕ) → offset_at (z ++ rest) ≡ Some (o, rest)
 unfolding offset_at

@@ -1,33 +1,16 @@
 -- Instants that are read are spelled.
-use Rattle.std.proofs.Common.{◌≡◌, sym, ap, subst, ◌∙◌, arith, ℕ, ◌^◌, ◌<◌, inl, inr, Bool, true, false, nat_eq, bytes_eq}
-use Rattle.std.proofs.Common.{List, [], ◌∷◌, ◌++◌, length, append_assoc, append-nil, eqb-true, Option, Some, Result, Ok, Err, ok_or, ℤ, codes}
-use Rattle.std.proofs.lemmas.Bool.Decides.{nat_tests}
-use Rattle.std.proofs.lemmas.List.{take-append-drop}
-use Rattle.std.proofs.lemmas.Slice.Eq.{bytes_eq-Decides}
-use Rattle.std.proofs.lemmas.Option.{same_Some, none-some}
-use Rattle.std.specs.Char.{is_ascii_digit}
-use Rattle.std.specs.List.{prefix_len}
-use Rattle.std.specs.Result.{result_map_both}
+use Rattle.std.proofs.Common.{◌≡◌, sym, ap, subst, ◌∙◌, arith, ℕ, ◌^◌, ◌<◌, inl, inr, Bool, true, false, nat_eq, bytes_eq, List, [], ◌∷◌, ◌++◌, length, append_assoc, append-nil, eqb-true, Option, Some, Result, Ok, Err, ok_or, ℤ, codes}
+use Rattle.std.proofs.lemmas.{Bool.Decides.{nat_tests}, List.{take-append-drop}, Slice.Eq.{bytes_eq-Decides}, Option.{same_Some, none-some}}
+use Rattle.std.specs.{Char.{is_ascii_digit}, List.{prefix_len}, Result.{result_map_both}}
 use Rattle.basics.specs.LogicLaws.{map_some}
-use Rattle.civil_base.specs.Instants.{instant_at}
-use Rattle.civil_base.specs.Ranges.{IsInYears, is_in_years}
-use Rattle.zone_moments.proofs.FoundLemmas.{Takes, takes, TakesFront, takes_front, TakesSecond, same_Ok, bind_ok, wanted, chosen, passed, passed_over, marked}
-use Rattle.zone_moments.proofs.FoundLemmas.{minute_found, front_found, seconds_found, full_time, fraction_found, moment_found, ended_found}
-use Rattle.zone_moments.proofs.InstantAgainLemmas.{few}
-use Rattle.zone_moments.proofs.NumberLemmas.{run_passes}
-use Rattle.zone_moments.specs.Numbers.{is_separator, is_utc, moment, seconds_east, counted}
-use Rattle.zone_moments.specs.Pieces.{offset_at, minute_at, run_of, after_run}
-use Rattle.zone_moments.specs.Readings.{front_at, seconds_at, fraction_at, moment_in, ended, zoned_at, zoned_in, size_at, count_at, count_in, count_of}
-use Rattle.zone_moments.specs.Readings.{counted_in, written_in, instant_cause, instant_in, asked_in, in_years, is_offset}
-use Rattle.zone_moments.specs.Spells.{SpellsDate, SpellsMinute, minute, SpellsFraction, SpellsTime, Exist, SpellsOffset, utc, east, west}
-use Rattle.zone_moments.specs.Spells.{AreDigits, SpellsInstant, since, before, zoned, SpellsAsked, now, instant}
-use Rattle.zone_moments.specs.declared.fault.TextFault.{TextFault}
-use Rattle.zone_moments.specs.declared.fault.TextFault.TheVariants.{OffsetMissing, CountMissing, Trailing, OffsetRange, OutOfYears}
-use Rattle.zone_moments.specs.declared.form.WrittenDate.{WrittenDate}
-use Rattle.zone_moments.specs.declared.form.WrittenTime.{WrittenTime}
-use Rattle.zone_moments.specs.declared.form.WrittenOffset.{WrittenOffset}
-use Rattle.zone_moments.specs.declared.form.WrittenInstant.{WrittenInstant}
-use Rattle.zone_moments.specs.declared.form.WrittenCount.{WrittenCount}
+use Rattle.civil_base.specs.{Instants.{instant_at}, Ranges.{IsInYears, is_in_years}}
+use Rattle.zone_moments.proofs.FoundLemmas.{Takes, takes, TakesFront, takes_front, TakesSecond, same_Ok, bind_ok, wanted, chosen, passed, passed_over, marked, minute_found, front_found, seconds_found, full_time, fraction_found, moment_found, ended_found}
+use Rattle.zone_moments.proofs.{InstantAgainLemmas.{few}, NumberLemmas.{run_passes}}
+use Rattle.zone_moments.specs.{Numbers.{is_separator, is_utc, moment, seconds_east, counted}, Pieces.{offset_at, minute_at, run_of, after_run}}
+use Rattle.zone_moments.specs.Readings.{front_at, seconds_at, fraction_at, moment_in, ended, zoned_at, zoned_in, size_at, count_at, count_in, count_of, counted_in, written_in, instant_cause, instant_in, asked_in, in_years, is_offset}
+use Rattle.zone_moments.specs.Spells.{SpellsDate, SpellsMinute, minute, SpellsFraction, SpellsTime, Exist, SpellsOffset, utc, east, west, AreDigits, SpellsInstant, since, before, zoned, SpellsAsked, now, instant}
+use Rattle.zone_moments.specs.declared.{fault.TextFault.{TextFault}, fault.TextFault.TheVariants.{OffsetMissing, CountMissing, Trailing, OffsetRange, OutOfYears}, form.WrittenDate.{WrittenDate}, form.WrittenTime.{WrittenTime}}
+use Rattle.zone_moments.specs.declared.form.{WrittenOffset.{WrittenOffset}, WrittenInstant.{WrittenInstant}, WrittenCount.{WrittenCount}}
 
 -- a text of the offset stands at the front, where it is less than 24 hours
 data TakesOffset : List ℕ → WrittenOffset → List ℕ → Type 0 where

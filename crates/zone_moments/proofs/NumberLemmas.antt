@@ -1,13 +1,7 @@
 -- Numbers in digits.
-use Rattle.std.proofs.Common.{◌≡◌, refl, arith, ℕ, suc, ◌+◌, ◌-◌, ◌*◌, ◌^◌, ◌<◌, ◌≤◌, min, Bool, true, false, List, [], ◌∷◌, length, nat_le, get_or, drop, take_while, cond, sym, ◌∙◌}
-use Rattle.std.proofs.lemmas.Bool.{and_parts}
-use Rattle.std.proofs.lemmas.Bool.Decides.{nat_tests}
-use Rattle.std.proofs.lemmas.List.{drop_more}
-use Rattle.std.proofs.lemmas.List.Sums.{take_while-cons}
-use Rattle.std.proofs.lemmas.Nat.{pow-add}
-use Rattle.std.proofs.Math.Nat.{mul-lt-mul_of_pos_right, mul-le-mul_right, le-mul_of_pos_right, one-le-pow, min-eq_left, min-eq_right}
-use Rattle.std.specs.Char.{is_ascii_digit}
-use Rattle.std.specs.List.{list_all}
+use Rattle.std.proofs.{Common.{◌≡◌, refl, arith, ℕ, suc, ◌+◌, ◌-◌, ◌*◌, ◌^◌, ◌<◌, ◌≤◌, min, Bool, true, false, List, [], ◌∷◌, length, nat_le, get_or, drop, take_while, cond, sym, ◌∙◌}, lemmas.Bool.{and_parts}, lemmas.Bool.Decides.{nat_tests}}
+use Rattle.std.proofs.{lemmas.List.{drop_more}, lemmas.List.Sums.{take_while-cons}, lemmas.Nat.{pow-add}, Math.Nat.{mul-lt-mul_of_pos_right, mul-le-mul_right, le-mul_of_pos_right, one-le-pow, min-eq_left, min-eq_right}}
+use Rattle.std.specs.{Char.{is_ascii_digit}, List.{list_all}}
 use Rattle.zone_moments.specs.Numbers.{number_after}
 
 -- more digits make no smaller number

@@ -1,36 +1,16 @@
 -- A time at the front of a text is read where there is one.
 use Rattle.std.proofs.Common.{◌≡◌, refl, sym, ap, subst, ◌∙◌, arith, ℕ, ◌-◌, ◌*◌, ◌^◌, ◌<◌, ◌≤◌, inl, inr, Bool, true, false, cond, nat_eq, min}
-use Rattle.std.proofs.Common.{List, [], ◌∷◌, ◌++◌, length, length-append, append_assoc, Option, Some, None, Result, Ok, Err, is_ok, ℤ, pos, option_map, MatchOption}
-use Rattle.std.specs.Result.{result_ok}
-use Rattle.std.proofs.lemmas.Bool.{and_parts}
-use Rattle.std.proofs.lemmas.Bool.Decides.{nat_tests}
-use Rattle.std.proofs.lemmas.List.{take-append-drop}
-use Rattle.std.proofs.lemmas.Option.{same_Some, none-some}
-use Rattle.std.proofs.Math.Nat.{min-eq_left, le-mul_of_pos_right}
-use Rattle.std.specs.Char.{is_ascii_digit}
-use Rattle.std.specs.List.{prefix_len, list_all}
-use Rattle.basics.specs.LogicLaws.{map_some, bind_some}
-use Rattle.basics.specs.SignedLaws.{signed}
-use Rattle.civil_base.specs.DateTimes.{instant as instant_of}
-use Rattle.civil_base.specs.Layout.{two_digits}
-use Rattle.civil_base.specs.Ranges.{IsInYears}
-use Rattle.civil_base.specs.RangeLaws.{years_end}
-use Rattle.civil_base.specs.declared.offset_date_time.OffsetDateTime.{OffsetDateTime}
-use Rattle.basics.specs.Marks.{after_mark}
-use Rattle.zone_moments.proofs.AgainLemmas.{begins, goes_on, run_again, no_digit}
-use Rattle.zone_moments.proofs.FoundLemmas.{marked, chosen, same_Ok}
+use Rattle.std.proofs.{Common.{List, [], ◌∷◌, ◌++◌, length, length-append, append_assoc, Option, Some, None, Result, Ok, Err, is_ok, ℤ, pos, option_map, MatchOption}, lemmas.Bool.{and_parts}, lemmas.Bool.Decides.{nat_tests}, lemmas.List.{take-append-drop}}
+use Rattle.std.proofs.{lemmas.Option.{same_Some, none-some}, Math.Nat.{min-eq_left, le-mul_of_pos_right}}
+use Rattle.std.specs.{Result.{result_ok}, Char.{is_ascii_digit}, List.{prefix_len, list_all}}
+use Rattle.basics.specs.{LogicLaws.{map_some, bind_some}, SignedLaws.{signed}, Marks.{after_mark}}
+use Rattle.civil_base.specs.{DateTimes.{instant as instant_of}, Layout.{two_digits}, Ranges.{IsInYears}, RangeLaws.{years_end}, declared.offset_date_time.OffsetDateTime.{OffsetDateTime}}
+use Rattle.zone_moments.proofs.{AgainLemmas.{begins, goes_on, run_again, no_digit}, FoundLemmas.{marked, chosen, same_Ok}, NumberLemmas.{run_passes}}
+use Rattle.zone_moments.specs.{Numbers.{counted}, Pieces.{digit_at, two_at, four_at, date_at, run_of, after_run}, Readings.{count_at, count_in, count_of, size_at, front_at, zoned_at, zoned_in, in_years}, Shown.{stamp_shown}}
+use Rattle.zone_moments.specs.{Spells.{AreDigits, since, before, zoned, time}, Stamps.{is_apart, unit_of, SpellsStamp, instant, plain, HasStamp, stamp, stamped, numbered, left_in, stamp_in}, declared.fault.TextFault.{TextFault}}
+use Rattle.zone_moments.specs.declared.form.{WrittenInstant.{WrittenInstant}, WrittenCount.{WrittenCount}}
 use Rattle.zone_moments.proofs.InstantAgainLemmas as again
 use Rattle.zone_moments.proofs.InstantFoundLemmas as found
-use Rattle.zone_moments.proofs.NumberLemmas.{run_passes}
-use Rattle.zone_moments.specs.Numbers.{counted}
-use Rattle.zone_moments.specs.Pieces.{digit_at, two_at, four_at, date_at, run_of, after_run}
-use Rattle.zone_moments.specs.Readings.{count_at, count_in, count_of, size_at, front_at, zoned_at, zoned_in, in_years}
-use Rattle.zone_moments.specs.Shown.{stamp_shown}
-use Rattle.zone_moments.specs.Spells.{AreDigits, since, before, zoned, time}
-use Rattle.zone_moments.specs.Stamps.{is_apart, unit_of, SpellsStamp, instant, plain, HasStamp, stamp, stamped, numbered, left_in, stamp_in}
-use Rattle.zone_moments.specs.declared.fault.TextFault.{TextFault}
-use Rattle.zone_moments.specs.declared.form.WrittenInstant.{WrittenInstant}
-use Rattle.zone_moments.specs.declared.form.WrittenCount.{WrittenCount}
 
 apart_stops : (rest : List ℕ) → is_apart rest ≡ true → begins goes_on rest ≡ false
 apart_stops [] apart = refl

@@ -1,12 +1,9 @@
 -- The readings of texts that are known from outside: RFC 3339's own examples, Python's `datetime`, and what is refused.
-use Rattle.std.proofs.Common.{◌≡◌, refl, map, ℕ, ℤ, List, [], ◌∷◌, Option, Result, Some, None, Ok, Err, pos, neg_ℤ}
-use Rattle.std.specs.Prelude.{codes}
+use Rattle.std.{proofs.Common.{◌≡◌, refl, map, ℕ, ℤ, List, [], ◌∷◌, Option, Result, Some, None, Ok, Err, pos, neg_ℤ}, specs.Prelude.{codes}}
 use Rattle.basics.specs.Days.{is_leap, days_in_year, days_in_month, days_after_zero, days_before_zero, year_start, days_through, days_into_year, day}
 use Rattle.civil_base.specs.Clock.{time_at}
-use Rattle.zone_moments.specs.Numbers.{moment, seconds_east, counted}
-use Rattle.zone_moments.specs.Pieces.{digit_at, two_at, four_at, date_at, minute_at, second_at, offset_at}
-use Rattle.zone_moments.specs.Readings.{digits_at, fraction_at, front_at, seconds_at, moment_in, local_in, in_years, zoned_at, zoned_in, size_at, count_at, count_in, counted_in, written_in, instant_in, asked_in}
-use Rattle.zone_moments.specs.declared.fault.TextFault.{TextFault}
+use Rattle.zone_moments.specs.{Numbers.{moment, seconds_east, counted}, Pieces.{digit_at, two_at, four_at, date_at, minute_at, second_at, offset_at}}
+use Rattle.zone_moments.specs.{Readings.{digits_at, fraction_at, front_at, seconds_at, moment_in, local_in, in_years, zoned_at, zoned_in, size_at, count_at, count_in, counted_in, written_in, instant_in, asked_in}, declared.fault.TextFault.{TextFault}}
 use Rattle.zone_moments.specs.declared.fault.TextFault.TheVariants.{MarkMissing, DateMissing, ClockMissing, HourShort, TimeMissing, SecondMissing, FractionMissing, TooFine}
 use Rattle.zone_moments.specs.declared.fault.TextFault.TheVariants.{OffsetMissing, CountMissing, OffsetThere, Trailing, NoSuchDate, NoSuchTime, OffsetRange, OutOfYears}
 

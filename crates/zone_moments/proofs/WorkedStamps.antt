@@ -1,13 +1,9 @@
 -- Times at the front of lines, and what is written, as they are known from outside.
-use Rattle.std.proofs.Common.{◌≡◌, refl, map, ℕ, ℤ, List, Option, [], ◌∷◌, Some, None, pos, neg_ℤ}
-use Rattle.std.specs.Prelude.{codes}
-use Rattle.std.specs.Fmt.{digits}
+use Rattle.std.{proofs.Common.{◌≡◌, refl, map, ℕ, ℤ, List, Option, [], ◌∷◌, Some, None, pos, neg_ℤ}, specs.Prelude.{codes}, specs.Fmt.{digits}}
 use Rattle.basics.specs.Days.{is_leap, days_in_year, days_in_month, days_after_zero, days_before_zero, year_start, days_through, days_into_year, day}
 use Rattle.civil_base.specs.Clock.{time_at}
-use Rattle.zone_moments.specs.Numbers.{moment, seconds_east, counted}
-use Rattle.zone_moments.specs.Pieces.{digit_at, two_at, four_at, date_at, minute_at, second_at, offset_at}
-use Rattle.zone_moments.specs.Readings.{digits_at, fraction_at, front_at, seconds_at, moment_in, in_years, zoned_at, zoned_in, size_at, count_at, count_in}
-use Rattle.zone_moments.specs.Stamps.{unit_of, numbered, left_in, stamp_in}
+use Rattle.zone_moments.specs.{Numbers.{moment, seconds_east, counted}, Pieces.{digit_at, two_at, four_at, date_at, minute_at, second_at, offset_at}}
+use Rattle.zone_moments.specs.{Readings.{digits_at, fraction_at, front_at, seconds_at, moment_in, in_years, zoned_at, zoned_in, size_at, count_at, count_in}, Stamps.{unit_of, numbered, left_in, stamp_in}}
 use Rattle.zone_moments.specs.Written.{fraction_text, offset_shown, epoch_text, seconds_text}
 
 abbrev stamps : List (List ℕ × Option (ℤ × ℕ))

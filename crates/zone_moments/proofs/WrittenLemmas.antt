@@ -1,13 +1,10 @@
 -- The pieces of which texts are written.
 use Rattle.std.proofs.Common.{◌≡◌, refl, ap, ◌∙◌, arith, ℕ, ◌+◌, ◌-◌, ◌<◌, ◌≤◌, Bool, true, false, ◌&&◌}
-use Rattle.std.proofs.Common.{List, [], ◌∷◌, ◌++◌, length, take, drop, get_or, length-append, append_assoc, ◌≢◌, ◌/◌, ◌%◌, ℤ, pos, int_lt, unsigned_abs, if◌then◌else◌, to_z, of_z, to_z-of_z, FitsSigned, w32}
-use Rattle.std.proofs.lemmas.Bool.Decides.{nat_tests}
+use Rattle.std.proofs.{Common.{List, [], ◌∷◌, ◌++◌, length, take, drop, get_or, length-append, append_assoc, ◌≢◌, ◌/◌, ◌%◌, ℤ, pos, int_lt, unsigned_abs, if◌then◌else◌, to_z, of_z, to_z-of_z, FitsSigned, w32}, lemmas.Bool.Decides.{nat_tests}}
 use Rattle.std.proofs.lemmas.List.{take_at, drop_at, take_more}
 use Rattle.std.specs.List.{list_all}
 use Rattle.basics.specs.Dates.{year_of}
-use Rattle.civil_base.specs.Clock.{nanosecond_of}
-use Rattle.civil_base.specs.Layout.{digit, local_text, time_text, nine_digits, year_sign, date_digits, day_part, time_part}
-use Rattle.civil_base.specs.LayoutLaws.{unsigned_text, local_text-sign, unsigned_text-shape}
+use Rattle.civil_base.specs.{Clock.{nanosecond_of}, Layout.{digit, local_text, time_text, nine_digits, year_sign, date_digits, day_part, time_part}, LayoutLaws.{unsigned_text, local_text-sign, unsigned_text-shape}}
 use Rattle.zone_moments.specs.Written.{is_zero, shortest, pointed, fraction_text, clock_text, moment_text, seconds_shown, offset_shown}
 
 and_true : (t : Bool) → t && true ≡ t

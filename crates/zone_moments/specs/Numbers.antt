@@ -1,11 +1,8 @@
 -- What the numbers of a text amount to.
 use Rattle.std.specs.Prelude.{ℕ, ◌+◌, ◌-◌, ◌*◌, ◌^◌, Bool, ◌||◌, ◌==◌, List, [], ◌∷◌, length, ℤ, pos, ◌+ℤ◌, ◌*ℤ◌}
 use Rattle.basics.specs.Days.{day}
-use Rattle.civil_base.specs.Clock.{nanos_per_day, time_at}
-use Rattle.civil_base.specs.Offsets.{signed_by}
-use Rattle.zone_moments.specs.declared.form.WrittenDate.{WrittenDate}
-use Rattle.zone_moments.specs.declared.form.WrittenTime.{WrittenTime}
-use Rattle.zone_moments.specs.declared.form.WrittenOffset.{WrittenOffset}
+use Rattle.civil_base.specs.{Clock.{nanos_per_day, time_at}, Offsets.{signed_by}}
+use Rattle.zone_moments.specs.declared.form.{WrittenDate.{WrittenDate}, WrittenTime.{WrittenTime}, WrittenOffset.{WrittenOffset}}
 
 -- `T`, `t` or a space
 abbrev pub is_separator : ℕ → Bool

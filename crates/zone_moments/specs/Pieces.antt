@@ -1,12 +1,7 @@
 -- The pieces at the front of a text, each with what follows it.
-use Rattle.std.specs.Prelude.{ℕ, ◌+◌, ◌-◌, ◌*◌, ◌==◌, Bool, true, false, List, [], ◌∷◌, drop, take_while, Option, Some, None, option_map, option_and_then, if◌then◌else◌}
-use Rattle.std.specs.Char.{is_ascii_digit}
-use Rattle.std.specs.List.{prefix_len}
-use Rattle.std.specs.Borrow.{Bor}
+use Rattle.std.specs.{Prelude.{ℕ, ◌+◌, ◌-◌, ◌*◌, ◌==◌, Bool, true, false, List, [], ◌∷◌, drop, take_while, Option, Some, None, option_map, option_and_then, if◌then◌else◌}, Char.{is_ascii_digit}, List.{prefix_len}, Borrow.{Bor}}
 use Rattle.basics.specs.Marks.{after_mark}
-use Rattle.zone_moments.specs.Numbers.{is_separator, is_utc}
-use Rattle.zone_moments.specs.declared.form.WrittenDate.{WrittenDate}
-use Rattle.zone_moments.specs.declared.form.WrittenOffset.{WrittenOffset}
+use Rattle.zone_moments.specs.{Numbers.{is_separator, is_utc}, declared.form.WrittenDate.{WrittenDate}, declared.form.WrittenOffset.{WrittenOffset}}
 
 infixl 10 ◌>>=◌
 abbrev pub ◌>>=◌ : {A B : Type 0} → Option A → (A → Option B) → Option B

@@ -1,24 +1,12 @@
 -- What a whole text is read as, or the first fault: its form from the left to the right, then what doesn't exist.
-use Rattle.std.specs.Prelude.{ℕ, ◌^◌, min, Bool, true, false, ◌&&◌, List, [], ◌∷◌, length, Option, Some, None, Result, Ok, Err, is_ok, is_some, ok_or}
-use Rattle.std.specs.Prelude.{nat_le, nat_lt, nat_eq, if◌then◌else◌, ℤ, pos, bytes_eq, codes}
-use Rattle.std.specs.Char.{is_ascii_digit}
-use Rattle.std.specs.Option.{option_map_or}
-use Rattle.std.specs.Result.{result_map_both}
-use Rattle.std.specs.Borrow.{Bor}
-use Rattle.basics.specs.Days.{days_in_month}
-use Rattle.civil_base.specs.Instants.{instant_at}
-use Rattle.civil_base.specs.Ranges.{is_in_years}
-use Rattle.basics.specs.Marks.{after_mark}
-use Rattle.zone_moments.specs.Numbers.{fraction_of, moment, number_after, seconds_east, counted}
-use Rattle.zone_moments.specs.Pieces.{date_at, separator_at, minute_at, second_at, offset_at, run_of, after_run}
-use Rattle.zone_moments.specs.declared.fault.TextFault.{TextFault}
+use Rattle.std.specs.{Prelude.{ℕ, ◌^◌, min, Bool, true, false, ◌&&◌, List, [], ◌∷◌, length, Option, Some, None, Result, Ok, Err, is_ok, is_some, ok_or}, Prelude.{nat_le, nat_lt, nat_eq, if◌then◌else◌, ℤ, pos, bytes_eq, codes}, Char.{is_ascii_digit}}
+use Rattle.std.specs.{Option.{option_map_or}, Result.{result_map_both}, Borrow.{Bor}}
+use Rattle.basics.specs.{Days.{days_in_month}, Marks.{after_mark}}
+use Rattle.civil_base.specs.{Instants.{instant_at}, Ranges.{is_in_years}}
+use Rattle.zone_moments.specs.{Numbers.{fraction_of, moment, number_after, seconds_east, counted}, Pieces.{date_at, separator_at, minute_at, second_at, offset_at, run_of, after_run}, declared.fault.TextFault.{TextFault}}
 use Rattle.zone_moments.specs.declared.fault.TextFault.TheVariants.{MarkMissing, DateMissing, ClockMissing, HourShort, TimeMissing, SecondMissing, FractionMissing, TooFine}
-use Rattle.zone_moments.specs.declared.fault.TextFault.TheVariants.{OffsetMissing, CountMissing, OffsetThere, Trailing, NoSuchDate, NoSuchTime, OffsetRange, OutOfYears}
-use Rattle.zone_moments.specs.declared.form.WrittenDate.{WrittenDate}
-use Rattle.zone_moments.specs.declared.form.WrittenTime.{WrittenTime}
-use Rattle.zone_moments.specs.declared.form.WrittenOffset.{WrittenOffset}
-use Rattle.zone_moments.specs.declared.form.WrittenInstant.{WrittenInstant}
-use Rattle.zone_moments.specs.declared.form.WrittenCount.{WrittenCount}
+use Rattle.zone_moments.specs.declared.{fault.TextFault.TheVariants.{OffsetMissing, CountMissing, OffsetThere, Trailing, NoSuchDate, NoSuchTime, OffsetRange, OutOfYears}, form.WrittenDate.{WrittenDate}, form.WrittenTime.{WrittenTime}}
+use Rattle.zone_moments.specs.declared.form.{WrittenOffset.{WrittenOffset}, WrittenInstant.{WrittenInstant}, WrittenCount.{WrittenCount}}
 
 infixl 10 ◌>>=◌
 abbrev pub ◌>>=◌ : {A B : Type 0} → Result A TextFault → (A → Result B TextFault) → Result B TextFault

@@ -1,9 +1,7 @@
 -- What texts that were read give.
 use Rattle.std.specs.Prelude.{◌≡◌, ℕ, Option, Some, None, ℤ, pos}
-use Rattle.civil_base.specs.DateTimes.{instant, offset_of}
-use Rattle.civil_base.specs.declared.offset_date_time.OffsetDateTime.{OffsetDateTime}
-use Rattle.zone_moments.specs.declared.instant.Asked.{Asked}
-use Rattle.zone_moments.specs.declared.instant.Asked.TheVariants.{Now, At}
+use Rattle.civil_base.specs.{DateTimes.{instant, offset_of}, declared.offset_date_time.OffsetDateTime.{OffsetDateTime}}
+use Rattle.zone_moments.specs.declared.instant.Asked.{Asked, TheVariants.{Now, At}}
 
 abbrev pub asked : Asked → Option ℤ
 asked Now = None

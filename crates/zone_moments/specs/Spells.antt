@@ -1,16 +1,8 @@
 -- The texts of times, each whole text cut into its parts.
-use Rattle.std.specs.Prelude.{◌≡◌, ℕ, ◌<◌, ◌≤◌, true, false, List, [], ◌∷◌, ◌++◌, length, ℤ, pos, Option, Some, None, codes}
-use Rattle.std.specs.Char.{is_ascii_digit}
-use Rattle.std.specs.List.{list_all}
+use Rattle.std.specs.{Prelude.{◌≡◌, ℕ, ◌<◌, ◌≤◌, true, false, List, [], ◌∷◌, ◌++◌, length, ℤ, pos, Option, Some, None, codes}, Char.{is_ascii_digit}, List.{list_all}}
 use Rattle.basics.specs.Days.{IsDate}
-use Rattle.civil_base.specs.Clock.{IsClockTime}
-use Rattle.civil_base.specs.Instants.{instant_at}
-use Rattle.civil_base.specs.Layout.{two_digits, four_digits}
-use Rattle.civil_base.specs.Ranges.{IsInYears}
-use Rattle.zone_moments.specs.Numbers.{is_separator, is_utc, number_after, fraction_of, moment, seconds_east, counted}
-use Rattle.zone_moments.specs.declared.form.WrittenDate.{WrittenDate}
-use Rattle.zone_moments.specs.declared.form.WrittenTime.{WrittenTime}
-use Rattle.zone_moments.specs.declared.form.WrittenOffset.{WrittenOffset}
+use Rattle.civil_base.specs.{Clock.{IsClockTime}, Instants.{instant_at}, Layout.{two_digits, four_digits}, Ranges.{IsInYears}}
+use Rattle.zone_moments.specs.{Numbers.{is_separator, is_utc, number_after, fraction_of, moment, seconds_east, counted}, declared.form.WrittenDate.{WrittenDate}, declared.form.WrittenTime.{WrittenTime}, declared.form.WrittenOffset.{WrittenOffset}}
 
 -- `YYYY-MM-DD`
 pub data SpellsDate : List ℕ → WrittenDate → Type 0 where

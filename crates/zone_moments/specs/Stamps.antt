@@ -1,15 +1,9 @@
 -- Times at the front of a text, as logs have them.
-use Rattle.std.specs.Prelude.{◌≡◌, ℕ, ◌-◌, ◌*◌, Bool, true, ◌||◌, ◌==◌, not, nat_lt, List, [], ◌∷◌, ◌++◌, length, Option, Some, None, Result, Ok, Err, if◌then◌else◌, ℤ, pos}
-use Rattle.std.specs.Prelude.{option_map, option_and_then, is_ok}
-use Rattle.std.specs.Option.{option_map_or}
-use Rattle.std.specs.Result.{result_ok}
-use Rattle.std.specs.Char.{is_ascii_alphabetic, is_ascii_digit}
+use Rattle.std.specs.{Prelude.{◌≡◌, ℕ, ◌-◌, ◌*◌, Bool, true, ◌||◌, ◌==◌, not, nat_lt, List, [], ◌∷◌, ◌++◌, length, Option, Some, None, Result, Ok, Err, if◌then◌else◌, ℤ, pos}, Prelude.{option_map, option_and_then, is_ok}, Option.{option_map_or}}
+use Rattle.std.specs.{Result.{result_ok}, Char.{is_ascii_alphabetic, is_ascii_digit}}
 use Rattle.civil_base.specs.Ranges.{IsInYears}
 use Rattle.basics.specs.Marks.{after_mark}
-use Rattle.zone_moments.specs.Pieces.{run_of, after_run}
-use Rattle.zone_moments.specs.Readings.{count_at, count_in, count_of, in_years, zoned_at, zoned_in}
-use Rattle.zone_moments.specs.Spells.{AreDigits, SpellsInstant}
-use Rattle.zone_moments.specs.declared.fault.TextFault.{TextFault}
+use Rattle.zone_moments.specs.{Pieces.{run_of, after_run}, Readings.{count_at, count_in, count_of, in_years, zoned_at, zoned_in}, Spells.{AreDigits, SpellsInstant}, declared.fault.TextFault.{TextFault}}
 
 -- a byte that can't follow a time: an ASCII letter, a digit, `.`, `:` or `-`
 abbrev pub joins : ℕ → Bool

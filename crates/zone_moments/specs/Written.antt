@@ -1,9 +1,7 @@
 -- The texts that are written.
-use Rattle.std.specs.Prelude.{ℕ, ◌/◌, ◌%◌, ◌==◌, Bool, ◌&&◌, List, [], ◌∷◌, ◌++◌, if◌then◌else◌, ℤ, pos, int_lt, unsigned_abs, decimal}
-use Rattle.std.specs.List.{list_all}
+use Rattle.std.specs.{Prelude.{ℕ, ◌/◌, ◌%◌, ◌==◌, Bool, ◌&&◌, List, [], ◌∷◌, ◌++◌, if◌then◌else◌, ℤ, pos, int_lt, unsigned_abs, decimal}, List.{list_all}}
 use Rattle.basics.specs.Dates.{year_of}
-use Rattle.civil_base.specs.Clock.{hour_of, minute_of, second_of, nanosecond_of}
-use Rattle.civil_base.specs.Layout.{two_digits, nine_digits, year_sign, date_digits, day_part, time_part}
+use Rattle.civil_base.specs.{Clock.{hour_of, minute_of, second_of, nanosecond_of}, Layout.{two_digits, nine_digits, year_sign, date_digits, day_part, time_part}}
 
 abbrev pub is_zero : ℕ → Bool
 is_zero c = c == 48

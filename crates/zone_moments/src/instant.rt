@@ -1,10 +1,7 @@
 //! Instants as whole texts.
-ghost use Rattle.std.specs.Prelude.{◌≡◌, ◌≤◌, ◌^◌, pos, Option, ℤ, IfOk, MatchResult};
-ghost use Rattle.std.specs.Result.{result_map_both};
-ghost use Rattle.zone_moments.specs.Shown.{asked, IsAtUtc};
+ghost use Rattle.std.specs.{Prelude.{◌≡◌, ◌≤◌, ◌^◌, pos, Option, ℤ, IfOk, MatchResult}, Result.{result_map_both}};
+ghost use Rattle.zone_moments.specs.{Shown.{asked, IsAtUtc}, Spells.{SpellsAsked}, Readings.{told_as, zoned_at, size_at, count_at, counted_in, written_in, is_count, instant_cause, instant_in, asked_in}};
 ghost use Rattle.civil_base.specs.DateTimes.{instant, offset_of};
-ghost use Rattle.zone_moments.specs.Spells.{SpellsAsked};
-ghost use Rattle.zone_moments.specs.Readings.{told_as, zoned_at, size_at, count_at, counted_in, written_in, is_count, instant_cause, instant_in, asked_in};
 
 use crate::TextFault;
 use crate::form::{WrittenCount, WrittenInstant};

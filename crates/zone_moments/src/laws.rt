@@ -1,12 +1,8 @@
 //! Laws of the texts.
 ghost use Rattle.std.specs.Prelude.{◌≡◌, ◌%◌, ◌<◌, ◌≤ℤ◌, List, ℕ, ℤ, pos, unsigned_abs, Option};
 ghost use Rattle.basics.specs.Dates.{year_of};
-ghost use Rattle.civil_base.specs.Instants.{instant_at};
-ghost use Rattle.civil_base.specs.Layout.{day_part};
-ghost use Rattle.civil_base.specs.Ranges.{IsInYears};
-ghost use Rattle.zone_moments.specs.Spells.{SpellsAsked, SpellsInstant, SpellsLocal};
-ghost use Rattle.zone_moments.specs.Stamps.{HasStamp};
-ghost use Rattle.zone_moments.specs.Written.{moment_text, rfc3339_text, epoch_text};
+ghost use Rattle.civil_base.specs.{Instants.{instant_at}, Layout.{day_part}, Ranges.{IsInYears}};
+ghost use Rattle.zone_moments.specs.{Spells.{SpellsAsked, SpellsInstant, SpellsLocal}, Stamps.{HasStamp}, Written.{moment_text, rfc3339_text, epoch_text}};
 
 /// A text spells one local time at most, asks for one time at most, and has one time at its front at most.
 pub fn one_reading()

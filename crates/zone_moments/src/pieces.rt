@@ -1,10 +1,7 @@
 //! The pieces at the front of a text, each with what follows it.
-ghost use Rattle.std.specs.Prelude.{◌≡◌, ◌<◌, ◌^◌, option_map, IfSome, min, true};
-ghost use Rattle.std.specs.Char.{is_ascii_digit};
-ghost use Rattle.std.specs.List.{list_all, prefix_len};
+ghost use Rattle.std.specs.{Prelude.{◌≡◌, ◌<◌, ◌^◌, option_map, IfSome, min, true}, Char.{is_ascii_digit}, List.{list_all, prefix_len}};
 ghost use Rattle.basics.specs.Marks.{after_mark};
-ghost use Rattle.zone_moments.specs.Numbers.{is_separator, is_utc, number_after};
-ghost use Rattle.zone_moments.specs.Pieces.{read_as, digit_at, two_at, four_at, two_after, date_at, separator_at, minute_at, second_at, sized_at, offset_at, run_of, after_run};
+ghost use Rattle.zone_moments.specs.{Numbers.{is_separator, is_utc, number_after}, Pieces.{read_as, digit_at, two_at, four_at, two_after, date_at, separator_at, minute_at, second_at, sized_at, offset_at, run_of, after_run}};
 
 use crate::form::{WrittenDate, WrittenOffset};
 

@@ -1,10 +1,6 @@
 //! Local times as whole texts.
-ghost use Rattle.std.specs.Prelude.{◌≡◌, ◌≤◌, ℤ, length, true, MatchResult};
-ghost use Rattle.std.specs.Char.{is_ascii_digit};
-ghost use Rattle.std.specs.List.{list_all};
-ghost use Rattle.zone_moments.specs.Numbers.{fraction_of};
-ghost use Rattle.zone_moments.specs.Spells.{SpellsLocal};
-ghost use Rattle.zone_moments.specs.Readings.{told_as, digits_at, fraction_at, time_cause, front_at, seconds_at, after_time, local_in};
+ghost use Rattle.std.specs.{Prelude.{◌≡◌, ◌≤◌, ℤ, length, true, MatchResult}, Char.{is_ascii_digit}, List.{list_all}};
+ghost use Rattle.zone_moments.specs.{Numbers.{fraction_of}, Spells.{SpellsLocal}, Readings.{told_as, digits_at, fraction_at, time_cause, front_at, seconds_at, after_time, local_in}};
 
 use crate::TextFault;
 use crate::form::{WrittenDate, WrittenTime};

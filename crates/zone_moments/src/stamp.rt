@@ -1,10 +1,7 @@
 //! Times at the front of a text, as logs have them.
-ghost use Rattle.std.specs.Prelude.{◌≡◌, ◌≤◌, ◌*◌, ◌^◌, ℕ, ℤ, pos, None, length, option_map, IfSome, if◌then◌else◌, MatchOption};
-ghost use Rattle.std.specs.Result.{result_ok, result_map_both};
+ghost use Rattle.std.specs.{Prelude.{◌≡◌, ◌≤◌, ◌*◌, ◌^◌, ℕ, ℤ, pos, None, length, option_map, IfSome, if◌then◌else◌, MatchOption}, Result.{result_ok, result_map_both}};
 ghost use Rattle.civil_base.specs.DateTimes.{instant};
-ghost use Rattle.zone_moments.specs.Readings.{count_at, count_in};
-ghost use Rattle.zone_moments.specs.Shown.{stamp_shown};
-ghost use Rattle.zone_moments.specs.Stamps.{joins, is_apart, unit_of, stamped, numbered, left_in, stamp_in, HasStamp};
+ghost use Rattle.zone_moments.specs.{Readings.{count_at, count_in}, Shown.{stamp_shown}, Stamps.{joins, is_apart, unit_of, stamped, numbered, left_in, stamp_in, HasStamp}};
 
 use crate::TextFault;
 use crate::instant::{count_at, zoned_at};

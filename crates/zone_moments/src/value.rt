@@ -1,14 +1,8 @@
 //! Dates and times of day that are written and exist.
-ghost use Rattle.std.specs.Prelude.{◌≡◌, ◌<◌, ◌≤◌, ◌^◌, true, Some, None, pos, IfOk, if◌then◌else◌};
-ghost use Rattle.std.specs.Result.{result_map_both};
+ghost use Rattle.std.specs.{Prelude.{◌≡◌, ◌<◌, ◌≤◌, ◌^◌, true, Some, None, pos, IfOk, if◌then◌else◌}, Result.{result_map_both}};
 ghost use Rattle.basics.specs.Days.{day};
-ghost use Rattle.civil_base.specs.Clock.{time_at};
-ghost use Rattle.civil_base.specs.Instants.{instant_at};
-ghost use Rattle.civil_base.specs.Offsets.{signed_by};
-ghost use Rattle.civil_base.specs.Ranges.{is_offset as in_offsets};
-ghost use Rattle.zone_moments.specs.Numbers.{seconds_east};
-ghost use Rattle.zone_moments.specs.Readings.{is_date, is_time, is_offset, moment_in, in_years, zoned_in, count_in};
-ghost use Rattle.civil_base.specs.DateTimes.{instant, offset_of};
+ghost use Rattle.civil_base.specs.{Clock.{time_at}, Instants.{instant_at}, Offsets.{signed_by}, Ranges.{is_offset as in_offsets}, DateTimes.{instant, offset_of}};
+ghost use Rattle.zone_moments.specs.{Numbers.{seconds_east}, Readings.{is_date, is_time, is_offset, moment_in, in_years, zoned_in, count_in}};
 
 use crate::TextFault;
 use crate::form::{WrittenCount, WrittenDate, WrittenInstant, WrittenOffset, WrittenTime};

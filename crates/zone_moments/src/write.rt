@@ -1,10 +1,7 @@
 //! Times written for people, by RFC 3339 and as seconds.
 ghost use Rattle.std.specs.Prelude.{◌≡◌, ◌++◌, ◌∷◌, [], ◌+◌, ◌*◌, ◌/◌, ◌%◌, ◌<◌, ◌≤◌, length, take, is_ok, ℤ, pos, int_lt, unsigned_abs, if◌then◌else◌};
-ghost use Rattle.civil_base.specs.DateTimes.{instant};
+ghost use Rattle.civil_base.specs.{DateTimes.{instant}, Clock.{nanosecond_of}, Ranges.{far_seconds}, Layout.{local_text, nine_digits, year_sign, date_digits, day_part, time_part, digit as digit_of}};
 ghost use Rattle.basics.specs.Dates.{year_of};
-ghost use Rattle.civil_base.specs.Clock.{nanosecond_of};
-ghost use Rattle.civil_base.specs.Ranges.{far_seconds};
-ghost use Rattle.civil_base.specs.Layout.{local_text, nine_digits, year_sign, date_digits, day_part, time_part, digit as digit_of};
 ghost use Rattle.zone_moments.specs.Written.{shortest, pointed, clock_text, moment_text, seconds_shown, offset_shown, people_text, rfc3339_text, epoch_text, seconds_text};
 
 use civil_base::{OffsetDateTime, PlainDateTime, UtcOffset, write_local};

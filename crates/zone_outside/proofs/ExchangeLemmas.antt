@@ -1,6 +1,5 @@
 -- Writes one after another.
-use Rattle.std.proofs.Common.{◌≡◌, ℕ, ◌+◌, List, [], ◌∷◌, ◌++◌, map, take, drop, Option, Some, None, IfSome, sym, ap, ◌∙◌, subst, arith, append_assoc, append-nil}
-use Rattle.std.proofs.lemmas.Grind.{flat_map-append}
+use Rattle.std.proofs.{Common.{◌≡◌, ℕ, ◌+◌, List, [], ◌∷◌, ◌++◌, map, take, drop, Option, Some, None, IfSome, sym, ap, ◌∙◌, subst, arith, append_assoc, append-nil}, lemmas.Grind.{flat_map-append}}
 use Rattle.std.proofs.lemmas.List.{map-append, take-take, drop-take, take-append-drop}
 use Rattle.zone_outside.specs.Exchanges.{Event, was_written, ExchangeSeen, Does, Wrote, WrotePart}
 

@@ -1,7 +1,6 @@
 -- Calls of an exchange, worked by hand.
 use Rattle.std.proofs.Common.{◌≡◌, refl, Bool, true, false, ℕ, List, [], ◌∷◌}
-use Rattle.zone_outside.specs.Exchanges.{Event, was_read, was_written, received, sent}
-use Rattle.zone_outside.specs.Marks.{events_of, size_read, size_written}
+use Rattle.zone_outside.specs.{Exchanges.{Event, was_read, was_written, received, sent}, Marks.{events_of, size_read, size_written}}
 
 marks : List (Bool × ℕ)
 marks = (false, 2) ∷ (true, 1) ∷ (false, 0) ∷ (true, 2) ∷ []

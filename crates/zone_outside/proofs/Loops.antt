@@ -1,6 +1,5 @@
 -- Steps of the loops over a source and a sink.
-use Rattle.std.proofs.Common.{◌≡◌, ℕ, ◌+◌, ◌≤◌, List, ◌++◌, length, take, drop, Option, Some, None, IfSome, refl, sym, ap, ◌∙◌, subst, arith}
-use Rattle.std.proofs.Math.Seq.{drop-append_seam}
+use Rattle.std.proofs.{Common.{◌≡◌, ℕ, ◌+◌, ◌≤◌, List, ◌++◌, length, take, drop, Option, Some, None, IfSome, refl, sym, ap, ◌∙◌, subst, arith}, Math.Seq.{drop-append_seam}}
 use Rattle.std.proofs.lemmas.List.{append_assoc, take-take, drop-take, take-append-drop, length-take-le, drop-drop, take_at, nil_from_length}
 use Rattle.zone_outside.specs.Outside.{Consumes, KeepsNames, LeavesRest}
 

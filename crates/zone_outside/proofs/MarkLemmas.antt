@@ -1,9 +1,7 @@
 -- Accepted calls of an exchange in memory, one after another.
 use Rattle.std.proofs.Common.{◌≡◌, refl, sym, ap, ◌∙◌, arith, ℕ, ◌+◌, ◌≤◌, Bool, true, false, List, [], ◌∷◌, ◌++◌, length, take, drop, Option, Some, length-drop}
 use Rattle.std.proofs.lemmas.List.{drop-drop, take_all, take_at, take-append-le, drop-append-le, take-append-drop, nil_from_length, length-take-le}
-use Rattle.zone_outside.specs.Exchanges.{Event, was_read, was_written, sent}
-use Rattle.zone_outside.specs.Marks.{events_of, size_read, size_written}
-use Rattle.zone_outside.specs.Outside.{Consumes}
+use Rattle.zone_outside.specs.{Exchanges.{Event, was_read, was_written, sent}, Marks.{events_of, size_read, size_written}, Outside.{Consumes}}
 
 read_next : (marks : List (Bool × ℕ)) (input taken : List ℕ) (n : ℕ) →
     events_of (marks ++ (false, n) ∷ []) input taken ≡ events_of marks input taken ++ was_read (take n (drop (size_read marks) input)) ∷ []

@@ -1,10 +1,7 @@
 -- What a look-up of a file by its place says of the texts by name.
-use Rattle.std.proofs.Common.{◌≡◌, ℕ, zero, suc, ◌+◌, ◌<◌, Bool, true, false, not, cond, List, [], ◌∷◌, length, Option, Some, None, option_map, MatchOption, String, Vec, refl, ap, ◌∙◌, arith, nat_eq, string_bytes}
-use Rattle.std.proofs.lemmas.Bool.{ltb-true, ltb-false}
+use Rattle.std.proofs.{Common.{◌≡◌, ℕ, zero, suc, ◌+◌, ◌<◌, Bool, true, false, not, cond, List, [], ◌∷◌, length, Option, Some, None, option_map, MatchOption, String, Vec, refl, ap, ◌∙◌, arith, nat_eq, string_bytes}, lemmas.Bool.{ltb-true, ltb-false}}
 use Rattle.std.proofs.lemmas.Option.{slice_get_past}
-use Rattle.std.specs.Prelude.{nat_lt, slice_get, position, find}
-use Rattle.std.specs.List.{position_or_len}
-use Rattle.std.specs.declared.alloc.Global.{Global}
+use Rattle.std.specs.{Prelude.{nat_lt, slice_get, position, find}, List.{position_or_len}, declared.alloc.Global.{Global}}
 use lib.Pointwise.{pointwise}
 use Rattle.zone_outside.specs.Memory.{files_of, text_of, text_at}
 

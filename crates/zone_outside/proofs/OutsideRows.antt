@@ -1,7 +1,6 @@
 -- What counts of bytes and of faults say, held to plain numbers.
 use Rattle.std.proofs.Common.{◌≡◌, ◌↔◌, ℕ, ◌+◌, ◌*◌, ◌<◌, [], ◌∷◌, map, refl, arith}
-use Rattle.zone_outside.specs.Limit.{text_limit}
-use Rattle.zone_outside.specs.Outside.{last_count, raised, Rose, TooMuch}
+use Rattle.zone_outside.specs.{Limit.{text_limit}, Outside.{last_count, raised, Rose, TooMuch}}
 
 -- a count goes up to 2 ^ 64 - 1, and stays there
 counts_stay_at_the_last : map (raised 18446744073709551614) (0 ∷ 1 ∷ 2 ∷ [])

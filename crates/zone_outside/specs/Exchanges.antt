@@ -1,6 +1,5 @@
 -- What an object that is source and sink does, in the order of its calls.
-use Rattle.std.specs.Prelude.{◌≡◌, ℕ, List, [], ◌∷◌, ◌++◌, map, take, Option, Some, IfSome, Result, MatchResult}
-use Rattle.std.specs.List.{flat_map}
+use Rattle.std.specs.{Prelude.{◌≡◌, ℕ, List, [], ◌∷◌, ◌++◌, map, take, Option, Some, IfSome, Result, MatchResult}, List.{flat_map}}
 use Rattle.zone_outside.specs.Outside.{HasCause, Reads}
 
 -- a read that gave these bytes, none at the end, or a write that took these

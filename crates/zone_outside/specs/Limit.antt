@@ -1,7 +1,6 @@
 -- How long a text may be that is read whole.
-use Rattle.std.specs.Prelude.{◌≡◌, ℕ}
+use Rattle.std.{specs.Prelude.{◌≡◌, ℕ}, proofs.Common.{refl}}
 use Rattle.zone_outside.specs.declared.outside.TheConstants.{LIMIT}
-use Rattle.std.proofs.Common.{refl}
 
 -- 16,777,216 bytes
 abbrev pub text_limit : ℕ

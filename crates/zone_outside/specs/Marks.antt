@@ -1,7 +1,6 @@
 -- The calls of an exchange in memory, kept as sizes beside the bytes that moved.
 use Rattle.std.specs.Prelude.{◌≡◌, ℕ, ◌+◌, ◌<◌, ◌≤◌, Bool, true, false, List, [], ◌∷◌, length, take, drop}
-use Rattle.zone_outside.specs.Exchanges.{Event, was_read, was_written}
-use Rattle.zone_outside.specs.Memory.{CallCounts}
+use Rattle.zone_outside.specs.{Exchanges.{Event, was_read, was_written}, Memory.{CallCounts}}
 
 -- accepted calls: whether each was a write, and how many bytes it moved; with all bytes to be read, and all that were written
 abbrev pub events_of : List (Bool × ℕ) → List ℕ → List ℕ → List Event

@@ -1,8 +1,5 @@
 -- What is seen of the objects in memory: what they hold, how far they step, and their calls.
-use Rattle.std.specs.Prelude.{ℕ, ◌<◌, ◌≤◌, Bool, List, [], length, Option, Some, None, option_map, ◌==◌, String, Vec, string_bytes, nat_eq, map, slice_get, find}
-use Rattle.std.specs.List.{list_any}
-use Rattle.std.specs.Option.{option_map_or}
-use Rattle.std.specs.declared.alloc.Global.{Global}
+use Rattle.std.specs.{Prelude.{ℕ, ◌<◌, ◌≤◌, Bool, List, [], length, Option, Some, None, option_map, ◌==◌, String, Vec, string_bytes, nat_eq, map, slice_get, find}, List.{list_any}, Option.{option_map_or}, declared.alloc.Global.{Global}}
 use lib.Pointwise.{pointwise}
 use Rattle.zone_outside.specs.Outside.{raised}
 

@@ -1,8 +1,6 @@
 -- What is seen of the outside: of a shelf, of an input, of an output.
 use Rattle.std.specs.Prelude.{◌≡◌, ℕ, List, ◌++◌, Option, Some, IfSome}
-use Rattle.zone_outside.specs.Outside.{GrewByPrefix}
-use Rattle.zone_outside.specs.declared.outside.Source.{Ghosts as SourceOf}
-use Rattle.zone_outside.specs.declared.outside.Sink.{Ghosts as SinkOf}
+use Rattle.zone_outside.specs.{Outside.{GrewByPrefix}, declared.outside.Source.{Ghosts as SourceOf}, declared.outside.Sink.{Ghosts as SinkOf}}
 
 -- a shelf: the texts that it tells, what is left of the one that was fetched, what it gave, and its faults
 pub record ShelfSeen : Type 0 where

@@ -1,6 +1,5 @@
 -- What a clock and an environment tell.
-use Rattle.std.specs.Prelude.{ℕ, ◌*◌, ◌^◌, List, Option, option_map, find, nat_eq, String, string_bytes}
-use Rattle.std.specs.declared.alloc.Global.{Global}
+use Rattle.std.specs.{Prelude.{ℕ, ◌*◌, ◌^◌, List, Option, option_map, find, nat_eq, String, string_bytes}, declared.alloc.Global.{Global}}
 use lib.Pointwise.{pointwise}
 use Rattle.zone_outside.specs.Memory.{CallCounts}
 

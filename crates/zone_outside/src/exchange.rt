@@ -1,8 +1,7 @@
 //! An exchange: one object that is source and sink, so that clauses can speak of the order of its reads and writes; standard input
 //! and standard output together, which tell no content.
 ghost use Rattle.std.specs.Prelude.{◌≡◌, ◌<◌, ◌≤◌, length, None, IfOk, OnOk, OnErr};
-ghost use Rattle.zone_outside.specs.Exchanges.{ExchangeSeen, Receives, Sends, Wrote, WrotePart};
-ghost use Rattle.zone_outside.specs.Outside.{Rose};
+ghost use Rattle.zone_outside.specs.{Exchanges.{ExchangeSeen, Receives, Sends, Wrote, WrotePart}, Outside.{Rose}};
 
 use crate::outside::{Failed, Sink, Source, StdSink, StdSource};
 use std::io::Read;

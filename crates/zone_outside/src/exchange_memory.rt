@@ -1,7 +1,6 @@
 //! An exchange in memory, which tells everything and whose listed calls fail.
 ghost use Rattle.std.specs.Prelude.{◌≡◌, ◌<◌, ◌≤◌, ◌==◌, ◌||◌, [], min, true, Some, length, IfOk, IsErr, OnOk, OnErr, is_err, ◌+◌};
-ghost use Rattle.zone_outside.specs.Exchanges.{Receives, Sends, sent};
-ghost use Rattle.zone_outside.specs.Memory.{counted, fails_next, faulted, fresh_calls};
+ghost use Rattle.zone_outside.specs.{Exchanges.{Receives, Sends, sent}, Memory.{counted, fails_next, faulted, fresh_calls}};
 
 use crate::exchange::Exchange;
 use crate::memory::{Calls, bytes_from, copy_front};

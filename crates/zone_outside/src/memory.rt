@@ -1,8 +1,7 @@
 //! A shelf, a source and a sink in memory, which tell everything and whose listed calls fail.
 ghost use Rattle.std.specs.Prelude.{◌≡◌, ◌-◌, ◌<◌, ◌≤◌, ◌==◌, ◌||◌, min, nat_eq, [], ◌++◌, Some, None, length, take, drop, position, string_bytes, IfOk, IfSome, MatchOption, OnOk, OnErr, is_err, is_none};
 ghost use lib.Pointwise.{pointwise};
-ghost use Rattle.zone_outside.specs.Outside.{Consumes, Fetches, Gives, HasCause, KeepsNames, Reads, Rose, Takes, raised};
-ghost use Rattle.zone_outside.specs.Memory.{counted, faulted, fails_next, fresh_calls, files_of, text_chosen, text_of, text_at};
+ghost use Rattle.zone_outside.specs.{Outside.{Consumes, Fetches, Gives, HasCause, KeepsNames, Reads, Rose, Takes, raised}, Memory.{counted, faulted, fails_next, fresh_calls, files_of, text_chosen, text_of, text_at}};
 
 use crate::outside::{Failed, Shelf, Sink, Source};
 use std::alloc::{AllocError, Global};

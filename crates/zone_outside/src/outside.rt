@@ -4,8 +4,7 @@
 //! Each object counts its faults, and a call is refused only where that count rises. Counts are 64-bit numbers that stay
 //! at their last value, 18,446,744,073,709,551,615.
 ghost use Rattle.std.specs.Prelude.{◌≡◌, ℕ, ◌<◌, ◌≤◌, List, Option, None, length, IfOk, ◌+◌, [], ◌++◌, OnOk, OnErr, IfSome, Some, IsErrOf, ◌&&◌, Ok, true, false, nat_lt};
-ghost use Rattle.zone_outside.specs.Outside.{Fetches, Gives, HasCause, KeepsNames, Reads, Takes, Counted, GrewByPrefix, LeavesRest, Rose, TooMuch, raised};
-ghost use Rattle.zone_outside.specs.declared.outside.ReadEnd.TheVariants.{Failed, NoMemory};
+ghost use Rattle.zone_outside.specs.{Outside.{Fetches, Gives, HasCause, KeepsNames, Reads, Takes, Counted, GrewByPrefix, LeavesRest, Rose, TooMuch, raised}, declared.outside.ReadEnd.TheVariants.{Failed, NoMemory}};
 
 use std::alloc::{AllocError, Global};
 use std::fs;

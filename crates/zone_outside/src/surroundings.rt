@@ -1,9 +1,7 @@
 //! What surrounds a program besides its texts: a clock and the environment; the real ones, which tell no content, and ones in memory,
 //! which tell all.
 ghost use Rattle.std.specs.Prelude.{◌≡◌, ◌<◌, ◌≤◌, ℕ, List, Option, None, Some, IfOk, IfSome, IfNone, IsErrOf, OnOk, OnErr, is_err, true, option_map, string_bytes};
-ghost use Rattle.zone_outside.specs.Memory.{counted, fails_next, faulted, fresh_calls};
-ghost use Rattle.zone_outside.specs.Outside.{HasCause, Rose, raised};
-ghost use Rattle.zone_outside.specs.Surroundings.{clock_end, value_of};
+ghost use Rattle.zone_outside.specs.{Memory.{counted, fails_next, faulted, fresh_calls}, Outside.{HasCause, Rose, raised}, Surroundings.{clock_end, value_of}};
 
 use crate::memory::Calls;
 use crate::outside::{Failed, ReadEnd};

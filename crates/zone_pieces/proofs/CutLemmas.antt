@@ -1,10 +1,7 @@
 -- Where the first LF was looked for.
-use Rattle.std.proofs.Common.{◌≡◌, get_or, arith, ℕ, suc, ◌+◌, ◌<◌, false, List, length, take, drop, Some, None, length-drop, add-one}
-use Rattle.std.proofs.lemmas.Bool.{false_from_ne_true}
+use Rattle.std.proofs.{Common.{◌≡◌, get_or, arith, ℕ, suc, ◌+◌, ◌<◌, false, List, length, take, drop, Some, None, length-drop, add-one}, lemmas.Bool.{false_from_ne_true}}
 use Rattle.memchr.specs.Find.{IsFirstByte, is_byte}
-use Rattle.zone_pieces.proofs.LineLemmas.{first_cut, no_cut}
-use Rattle.zone_pieces.specs.Cuts.{IsCut, IsUncut}
-use Rattle.zone_pieces.specs.Lines.{is_line_feed}
+use Rattle.zone_pieces.{proofs.LineLemmas.{first_cut, no_cut}, specs.Cuts.{IsCut, IsUncut}, specs.Lines.{is_line_feed}}
 
 pub not_found : (bytes : List ℕ) → IsFirstByte (is_byte 10) bytes None → IsUncut bytes
 not_found bytes nowhere =

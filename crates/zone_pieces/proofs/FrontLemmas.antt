@@ -1,17 +1,10 @@
 -- Fronts of lines that come in pieces.
-use Rattle.std.proofs.Common.{◌≡◌, refl, sym, ap, ◌∙◌, arith, ℕ, ◌+◌, ◌-◌, ◌<◌, ◌≤◌, Bool, true, false, List, [], ◌∷◌, ◌++◌, take, drop, length, nat_le}
-use Rattle.std.proofs.Common.{append_assoc, append-nil, length-append}
-use Rattle.std.proofs.lemmas.Bool.Decides.{nat_tests}
-use Rattle.std.proofs.lemmas.Grind.{flat_map-append}
-use Rattle.std.proofs.lemmas.List.{take_all, drop_all, length-take-le, take-append-le, drop-append-le}
-use Rattle.std.proofs.Math.Seq.{drop-append-add}
+use Rattle.std.proofs.{Common.{◌≡◌, refl, sym, ap, ◌∙◌, arith, ℕ, ◌+◌, ◌-◌, ◌<◌, ◌≤◌, Bool, true, false, List, [], ◌∷◌, ◌++◌, take, drop, length, nat_le}, Common.{append_assoc, append-nil, length-append}, lemmas.Bool.Decides.{nat_tests}}
+use Rattle.std.proofs.{lemmas.Grind.{flat_map-append}, lemmas.List.{take_all, drop_all, length-take-le, take-append-le, drop-append-le}, Math.Seq.{drop-append-add}}
 use Rattle.std.specs.List.{flat_map}
 use Rattle.zone_pieces.proofs.LineLemmas.{lines_join, take_front}
-use Rattle.zone_pieces.specs.Cuts.{IsCut, IsUncut}
-use Rattle.zone_pieces.specs.Filters.{Grows, Closes}
-use Rattle.zone_pieces.specs.Fronts.{rewritten_line, ended_line, begun_line, closed_line, passed, passed_end, due_behind, Passes, PassesAll, fronts_rewritten}
-use Rattle.zone_pieces.specs.Lines.{lines_behind, open_behind, whole_lines, open_line}
-use Rattle.zone_pieces.specs.Room.{room}
+use Rattle.zone_pieces.specs.{Cuts.{IsCut, IsUncut}, Filters.{Grows, Closes}, Fronts.{rewritten_line, ended_line, begun_line, closed_line, passed, passed_end, due_behind, Passes, PassesAll, fronts_rewritten}}
+use Rattle.zone_pieces.specs.{Lines.{lines_behind, open_behind, whole_lines, open_line}, Room.{room}}
 
 le_true : (a b : ℕ) → a ≤ b → nat_le a b ≡ true
 le_true a b h = grind (arith, nat_tests, h)

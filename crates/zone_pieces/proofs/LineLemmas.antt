@@ -1,16 +1,8 @@
 -- Lines cut at their LFs, joined again, and short for long ones.
-use Rattle.std.proofs.Common.{◌≡◌, refl, sym, ap, ◌∙◌, arith, ℕ, zero, suc, ◌+◌, ◌-◌, ◌<◌, ◌≤◌, Bool, true, false, cond, ◌||◌, List, [], ◌∷◌, ◌++◌, length, take, drop, map, get_or, nat_lt, nat_eq, min}
-use Rattle.std.proofs.Common.{append_assoc, append-nil}
-use Rattle.std.proofs.lemmas.Bool.{ltb-true, ltb-false}
-use Rattle.std.proofs.lemmas.Bool.Decides.{nat_tests}
-use Rattle.std.proofs.lemmas.List.{take_all, length-take-le, take_min}
-use Rattle.std.proofs.Math.Nat.{min_comm}
-use Rattle.std.proofs.Math.Seq.{take-append-add}
-use Rattle.std.specs.List.{flat_map, list_any}
-use Rattle.std.specs.Prelude.{slice_index}
-use Rattle.std.specs.Str.Lines.{strip_carriage_return}
-use Rattle.zone_pieces.specs.Lines.{is_line_feed, lines_behind, open_behind}
-use Rattle.zone_pieces.specs.Replies.{Replies, answer, fails}
+use Rattle.std.proofs.Common.{◌≡◌, refl, sym, ap, ◌∙◌, arith, ℕ, zero, suc, ◌+◌, ◌-◌, ◌<◌, ◌≤◌, Bool, true, false, cond, ◌||◌, List, [], ◌∷◌, ◌++◌, length, take, drop, map, get_or, nat_lt, nat_eq, min, append_assoc, append-nil}
+use Rattle.std.proofs.{lemmas.Bool.{ltb-true, ltb-false}, lemmas.Bool.Decides.{nat_tests}, lemmas.List.{take_all, length-take-le, take_min}, Math.Nat.{min_comm}, Math.Seq.{take-append-add}}
+use Rattle.std.specs.{List.{flat_map, list_any}, Prelude.{slice_index}, Str.Lines.{strip_carriage_return}}
+use Rattle.zone_pieces.specs.{Lines.{is_line_feed, lines_behind, open_behind}, Replies.{Replies, answer, fails}}
 
 -- the first line ends at the first LF
 pub first_cut : (begun bytes : List ℕ) (k : ℕ) → k < length bytes → ((j : ℕ) → j < k → is_line_feed (get_or bytes j 0) ≡ false) →

@@ -1,12 +1,7 @@
 -- Answers to lines that come in pieces.
-use Rattle.std.proofs.Common.{◌≡◌, refl, sym, ap, ◌∙◌, ℕ, suc, ◌+◌, Bool, ◌||◌, List, [], ◌∷◌, ◌++◌, take, Result, Ok, Err, IfOk, OnOk}
-use Rattle.std.proofs.lemmas.List.Folds.{list_any-append}
-use Rattle.std.proofs.lemmas.Grind.{flat_map-append}
-use Rattle.std.specs.List.{flat_map, list_any}
+use Rattle.std.{proofs.Common.{◌≡◌, refl, sym, ap, ◌∙◌, ℕ, suc, ◌+◌, Bool, ◌||◌, List, [], ◌∷◌, ◌++◌, take, Result, Ok, Err, IfOk, OnOk}, proofs.lemmas.List.Folds.{list_any-append}, proofs.lemmas.Grind.{flat_map-append}, specs.List.{flat_map, list_any}}
 use Rattle.zone_pieces.proofs.LineLemmas.{answer_short, fails_short, answers_behind, fails_behind, lines_join, open_short}
-use Rattle.zone_pieces.specs.Filters.{Grows, Closes, replied}
-use Rattle.zone_pieces.specs.Lines.{lines_behind, open_behind, open_line, whole_lines, last_line}
-use Rattle.zone_pieces.specs.Replies.{Replies, answer, fails, longest, answers, any_fails}
+use Rattle.zone_pieces.specs.{Filters.{Grows, Closes, replied}, Lines.{lines_behind, open_behind, open_line, whole_lines, last_line}, Replies.{Replies, answer, fails, longest, answers, any_fails}}
 
 -- what is held goes on with a piece
 pub held_on : (held fed piece : List ℕ) → held ≡ take 4098 (open_line fed) → take 4098 (open_behind held piece) ≡ take 4098 (open_line (fed ++ piece))

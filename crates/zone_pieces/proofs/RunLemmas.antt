@@ -1,16 +1,10 @@
 -- A run over an exchange, call by call.
-use Rattle.std.proofs.Common.{◌≡◌, refl, sym, ap, ◌∙◌, subst, arith, ℕ, ◌+◌, ◌<◌, ◌≤◌, Bool, false, ◌||◌, List, [], ◌∷◌, ◌++◌, map, take, length, Option, Some, None, IfSome, Ok, Err}
-use Rattle.std.proofs.Common.{append_assoc, append-nil, length-append}
+use Rattle.std.proofs.Common.{◌≡◌, refl, sym, ap, ◌∙◌, subst, arith, ℕ, ◌+◌, ◌<◌, ◌≤◌, Bool, false, ◌||◌, List, [], ◌∷◌, ◌++◌, map, take, length, Option, Some, None, IfSome, Ok, Err, append_assoc, append-nil, length-append}
 use Rattle.std.proofs.lemmas.List.{length-take-le}
 use Rattle.std.specs.List.{flat_map}
-use Rattle.zone_outside.specs.Exchanges.{Event, was_read, was_written, ExchangeSeen, Does, Receives, received, sent, Wrote}
-use Rattle.zone_outside.specs.Outside.{Consumes, Rose, last_count}
-use Rattle.zone_outside.specs.declared.outside.Failed.{Failed}
-use Rattle.zone_pieces.specs.Filters.{Made, BeginsEmpty, in_all}
-use Rattle.zone_pieces.specs.Runs.{InOrder, Did, Took, SoFar, Ends, Steps, Stops, Finishes}
-use Rattle.zone_pieces.specs.declared.running.StreamEnd.{StreamEnd}
+use Rattle.zone_outside.specs.{Exchanges.{Event, was_read, was_written, ExchangeSeen, Does, Receives, received, sent, Wrote}, Outside.{Consumes, Rose, last_count}, declared.outside.Failed.{Failed}}
+use Rattle.zone_pieces.specs.{Filters.{Made, BeginsEmpty, in_all}, Runs.{InOrder, Did, Took, SoFar, Ends, Steps, Stops, Finishes}, declared.running.StreamEnd.{StreamEnd}, declared.running.StreamEnd.TheVariants.{Done, Fault, Read, Write, NoMemory, TooLong}}
 use Rattle.zone_pieces.specs.declared.running.StreamEnd.TheVariants as status
-use Rattle.zone_pieces.specs.declared.running.StreamEnd.TheVariants.{Done, Fault, Read, Write, NoMemory, TooLong}
 
 received_more : (events more : List Event) → received (events ++ more) ≡ received events ++ received more
 received_more [] more = refl

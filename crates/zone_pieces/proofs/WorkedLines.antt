@@ -1,9 +1,6 @@
 -- Lines and answers, worked by hand; the limit is 3 in place of 4,096.
-use Rattle.std.proofs.Common.{◌≡◌, refl, ℕ, true, false, List, [], ◌∷◌, ◌++◌, map, nat_eq}
-use Rattle.std.specs.List.{list_any}
-use Rattle.zone_pieces.specs.Lines.{lines_behind, open_behind, whole_lines, open_line, lines_of}
-use Rattle.zone_pieces.specs.Replies.{Replies, answer, fails, longest}
-use Rattle.zone_pieces.specs.Room.{room}
+use Rattle.std.{proofs.Common.{◌≡◌, refl, ℕ, true, false, List, [], ◌∷◌, ◌++◌, map, nat_eq}, specs.List.{list_any}}
+use Rattle.zone_pieces.specs.{Lines.{lines_behind, open_behind, whole_lines, open_line, lines_of}, Replies.{Replies, answer, fails, longest}, Room.{room}}
 
 -- "ab", LF, LF, "c", CR, LF, "d"
 input : List ℕ

@@ -1,13 +1,8 @@
 -- Lines of logs, worked by hand.
-use Rattle.std.proofs.Common.{◌≡◌, refl, ℕ, List, [], ◌∷◌, ◌++◌, map, Option, Some, None}
-use Rattle.std.specs.Prelude.{codes, ℤ, nat_eq, if◌then◌else◌}
+use Rattle.std.{proofs.Common.{◌≡◌, refl, ℕ, List, [], ◌∷◌, ◌++◌, map, Option, Some, None}, specs.Prelude.{codes, ℤ, nat_eq, if◌then◌else◌}}
 use lib.Signed.{mag}
-use Rattle.zone_moments.specs.Numbers.{counted}
-use Rattle.zone_moments.specs.Pieces.{digit_at, two_at, four_at, date_at}
-use Rattle.zone_moments.specs.Readings.{digits_at, fraction_at, front_at, in_years, zoned_at, size_at, count_at, count_in}
-use Rattle.zone_moments.specs.Stamps.{unit_of, numbered, left_in}
-use Rattle.zone_pieces.specs.Fronts.{rewritten_line, begun_line, closed_line}
-use Rattle.zone_pieces.specs.Logs.{fields_on, field_place, replaced, shown_at}
+use Rattle.zone_moments.specs.{Numbers.{counted}, Pieces.{digit_at, two_at, four_at, date_at}, Readings.{digits_at, fraction_at, front_at, in_years, zoned_at, size_at, count_at, count_in}, Stamps.{unit_of, numbered, left_in}}
+use Rattle.zone_pieces.specs.{Fronts.{rewritten_line, begun_line, closed_line}, Logs.{fields_on, field_place, replaced, shown_at}}
 
 -- " a  bc", tab, "d "
 line : List ℕ

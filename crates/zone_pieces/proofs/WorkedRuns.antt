@@ -1,8 +1,7 @@
 -- Orders of calls, and ends, worked by hand; what is due of bytes is these bytes.
 use Rattle.std.proofs.Common.{◌≡◌, refl, ℕ, List, [], ◌∷◌, true, false}
 use Rattle.zone_outside.specs.Exchanges.{was_read, was_written}
-use Rattle.zone_pieces.specs.Filters.{Made}
-use Rattle.zone_pieces.specs.Runs.{InOrder, IsDue}
+use Rattle.zone_pieces.specs.{Filters.{Made}, Runs.{InOrder, IsDue}}
 use Rattle.zone_pieces.specs.declared.running.StreamEnd.TheVariants as status
 
 -- in two parts, before more is read; nothing has to be written after the last read

@@ -1,8 +1,6 @@
 -- What turns an input that comes in pieces into an output.
-use Rattle.std.specs.Prelude.{◌≡◌, ℕ, Bool, false, ◌||◌, List, [], ◌++◌}
-use Rattle.std.proofs.Common.{refl}
-use Rattle.zone_pieces.specs.Lines.{lines_behind, whole_lines, open_line, last_line}
-use Rattle.zone_pieces.specs.Replies.{Replies, answers, any_fails}
+use Rattle.std.{specs.Prelude.{◌≡◌, ℕ, Bool, false, ◌||◌, List, [], ◌++◌}, proofs.Common.{refl}}
+use Rattle.zone_pieces.specs.{Lines.{lines_behind, whole_lines, open_line, last_line}, Replies.{Replies, answers, any_fails}}
 
 -- what is written once these bytes have come, and what besides where the input ends then; and whether a fault is in either
 pub record Made : Type 0 where

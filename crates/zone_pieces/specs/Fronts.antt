@@ -1,10 +1,6 @@
 -- Lines of any length of which only the front is rewritten.
-use Rattle.std.specs.Prelude.{ℕ, ◌≡◌, false, List, [], ◌∷◌, ◌++◌, length, take, drop, nat_le, if◌then◌else◌}
-use Rattle.std.specs.List.{flat_map}
-use Rattle.std.proofs.Common.{refl}
-use Rattle.zone_pieces.specs.Filters.{Made, BeginsEmpty}
-use Rattle.zone_pieces.specs.Lines.{lines_behind, open_behind, whole_lines, open_line, last_line}
-use Rattle.zone_pieces.specs.Room.{room}
+use Rattle.std.{specs.Prelude.{ℕ, ◌≡◌, false, List, [], ◌∷◌, ◌++◌, length, take, drop, nat_le, if◌then◌else◌}, specs.List.{flat_map}, proofs.Common.{refl}}
+use Rattle.zone_pieces.specs.{Filters.{Made, BeginsEmpty}, Lines.{lines_behind, open_behind, whole_lines, open_line, last_line}, Room.{room}}
 
 -- the front rewritten, and the rest as it is
 abbrev pub rewritten_line : ℕ → (List ℕ → List ℕ) → List ℕ → List ℕ

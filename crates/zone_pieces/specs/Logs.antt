@@ -1,7 +1,5 @@
 -- Lines of logs, with the local time in place of a time.
-use Rattle.std.specs.Prelude.{ℕ, ◌+◌, ◌-◌, ◌==◌, ◌||◌, Bool, not, List, ◌++◌, length, take, drop, zero, suc, nat_le, if◌then◌else◌, Option, ℤ}
-use Rattle.std.specs.List.{prefix_len}
-use Rattle.std.specs.Option.{option_map_or}
+use Rattle.std.specs.{Prelude.{ℕ, ◌+◌, ◌-◌, ◌==◌, ◌||◌, Bool, not, List, ◌++◌, length, take, drop, zero, suc, nat_le, if◌then◌else◌, Option, ℤ}, List.{prefix_len}, Option.{option_map_or}}
 use Rattle.zone_moments.specs.Stamps.{stamp_in}
 
 -- a space or a tab

@@ -1,7 +1,5 @@
 -- What is answered to lines.
-use Rattle.std.specs.Prelude.{ℕ, Bool, true, List, length, nat_lt, if◌then◌else◌}
-use Rattle.std.specs.List.{flat_map, list_any}
-use Rattle.std.specs.Str.Lines.{strip_carriage_return}
+use Rattle.std.specs.{Prelude.{ℕ, Bool, true, List, length, nat_lt, if◌then◌else◌}, List.{flat_map, list_any}, Str.Lines.{strip_carriage_return}}
 
 -- the response to each request, whether that is a fault, and the response to a request that is too long
 pub record Replies : Type 0 where

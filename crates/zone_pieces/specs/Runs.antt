@@ -1,10 +1,7 @@
 -- How a run of a filter over an exchange ends.
 use Rattle.std.specs.Prelude.{◌≡◌, ℕ, ◌≤◌, Bool, true, false, ◌||◌, List, [], ◌∷◌, ◌++◌, length, Option, Some, IfSome}
-use Rattle.zone_outside.specs.Exchanges.{Event, was_read, was_written, ExchangeSeen, received, sent, Wrote, WrotePart}
-use Rattle.zone_outside.specs.Outside.{Rose, last_count}
-use Rattle.zone_pieces.specs.Filters.{Made, in_all, fails_in_all}
-use Rattle.zone_pieces.specs.declared.running.StreamEnd.{StreamEnd}
-use Rattle.zone_pieces.specs.declared.running.StreamEnd.TheVariants.{Done, Fault, Read, Write, NoMemory, TooLong}
+use Rattle.zone_outside.specs.{Exchanges.{Event, was_read, was_written, ExchangeSeen, received, sent, Wrote, WrotePart}, Outside.{Rose, last_count}}
+use Rattle.zone_pieces.specs.{Filters.{Made, in_all, fails_in_all}, declared.running.StreamEnd.{StreamEnd}, declared.running.StreamEnd.TheVariants.{Done, Fault, Read, Write, NoMemory, TooLong}}
 
 -- after these bytes were read and those were written: whenever a read is asked, what is written is what is due of the bytes read by then
 abbrev pub InOrder : (List ℕ → List ℕ) → List ℕ → List ℕ → List Event → Type 0

@@ -1,7 +1,6 @@
 //! Lines of any length of which only the front is rewritten, in bounded memory.
 ghost use Rattle.std.specs.Prelude.{◌≡◌, ◌≤◌, ℕ, List, [], ◌∷◌, ◌++◌, length, take, drop, IfOk, OnOk};
-ghost use Rattle.zone_pieces.specs.Fronts.{Passes, PassesAll, closed_line, ended_line, passed, passed_end, rewritten_line};
-ghost use Rattle.zone_pieces.specs.Room.{room};
+ghost use Rattle.zone_pieces.specs.{Fronts.{Passes, PassesAll, closed_line, ended_line, passed, passed_end, rewritten_line}, Room.{room}};
 
 use crate::filter::Filter;
 use crate::held::{Held, ROOM};
@@ -162,8 +161,7 @@ impl<R: Rewriter + Drop> LineRewrites<R> {
 
 impl<R: Rewriter + Drop> Filter for LineRewrites<R> {
     ghost use Rattle.std.specs.Prelude.{take, ◌≡◌};
-    ghost use Rattle.zone_pieces.specs.Fronts.{fronts_begin_empty, fronts_rewritten};
-    ghost use Rattle.zone_pieces.specs.Lines.{open_line};
+    ghost use Rattle.zone_pieces.specs.{Fronts.{fronts_begin_empty, fronts_rewritten}, Lines.{open_line}};
 
     ghost made = { λ s. fronts_rewritten (R.rewritten s.rewriter) };
 

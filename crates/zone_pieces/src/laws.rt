@@ -1,10 +1,7 @@
 //! Laws of inputs that come in pieces.
-ghost use Rattle.std.specs.Prelude.{◌≡◌, ◌≢◌, ℕ, ◌≤◌, List, [], ◌∷◌, ◌++◌, true, false, length, take, not};
-ghost use Rattle.std.specs.List.{flat_map, list_all};
-ghost use Rattle.zone_pieces.specs.Lines.{is_line_feed, lines_behind, open_behind, whole_lines, open_line};
-ghost use Rattle.zone_pieces.specs.Runs.{InOrder};
+ghost use Rattle.std.specs.{Prelude.{◌≡◌, ◌≢◌, ℕ, ◌≤◌, List, [], ◌∷◌, ◌++◌, true, false, length, take, not}, List.{flat_map, list_all}};
+ghost use Rattle.zone_pieces.specs.{Lines.{is_line_feed, lines_behind, open_behind, whole_lines, open_line}, Runs.{InOrder}, Replies.{Replies, answers}};
 ghost use Rattle.zone_outside.specs.Exchanges.{Event, was_read, received, sent};
-ghost use Rattle.zone_pieces.specs.Replies.{Replies, answers};
 
 /// An input is the lines that are whole, each ended by an LF, and then its open line; no LF stands in any of them, and no other lines
 /// than these are whole.

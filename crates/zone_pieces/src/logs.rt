@@ -1,7 +1,5 @@
 //! Lines of logs, with the local time in place of a time.
-ghost use Rattle.std.specs.Prelude.{◌≡◌, ◌≤◌, ◌+◌, ℕ, ℤ, List, [], ◌++◌, length, Option, IfOk, OnOk, is_some, not};
-ghost use Rattle.std.specs.List.{prefix_len};
-ghost use Rattle.std.specs.Option.{unwrap_or};
+ghost use Rattle.std.specs.{Prelude.{◌≡◌, ◌≤◌, ◌+◌, ℕ, ℤ, List, [], ◌++◌, length, Option, IfOk, OnOk, is_some, not}, List.{prefix_len}, Option.{unwrap_or}};
 ghost use Rattle.civil_base.specs.DateTimes.{instant};
 ghost use Rattle.zone_pieces.specs.Logs.{after_blanks, after_word, field_place, from_field, is_blank, log_front, replaced, shown_at};
 

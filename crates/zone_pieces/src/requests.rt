@@ -1,9 +1,6 @@
 //! Requests a line, answered as their lines are whole.
-ghost use Rattle.std.specs.Prelude.{◌≡◌, ◌<◌, ◌≤◌, ℕ, true, Bool, List, [], ◌++◌, length, take, IfOk, OnOk, MatchOption, ◌||◌};
-ghost use Rattle.std.specs.Str.Lines.{strip_carriage_return};
-ghost use Rattle.zone_pieces.specs.Cuts.{IsCut, IsUncut};
-ghost use Rattle.zone_pieces.specs.Lines.{lines_behind, open_behind, last_line};
-ghost use Rattle.zone_pieces.specs.Replies.{Replies, answer, answers, any_fails, fails, longest};
+ghost use Rattle.std.specs.{Prelude.{◌≡◌, ◌<◌, ◌≤◌, ℕ, true, Bool, List, [], ◌++◌, length, take, IfOk, OnOk, MatchOption, ◌||◌}, Str.Lines.{strip_carriage_return}};
+ghost use Rattle.zone_pieces.specs.{Cuts.{IsCut, IsUncut}, Lines.{lines_behind, open_behind, last_line}, Replies.{Replies, answer, answers, any_fails, fails, longest}};
 
 use crate::filter::Filter;
 use crate::held::{Held, ROOM};
@@ -166,8 +163,7 @@ impl<R: Responder + Drop> LineAnswers<R> {
 
 impl<R: Responder + Drop> Filter for LineAnswers<R> {
     ghost use Rattle.std.specs.Prelude.{take, ◌≡◌};
-    ghost use Rattle.zone_pieces.specs.Filters.{begins_empty, replied};
-    ghost use Rattle.zone_pieces.specs.Lines.{open_line};
+    ghost use Rattle.zone_pieces.specs.{Filters.{begins_empty, replied}, Lines.{open_line}};
 
     ghost made = { λ s. replied (R.replies s.responder) };
 

@@ -1,9 +1,6 @@
 //! A filter over an exchange: what is due is written before more is read.
 ghost use Rattle.std.specs.Prelude.{◌≡◌, ◌<◌, ◌≤◌, ℕ, List, [], ◌++◌, length, IfOk, IfErr};
-ghost use Rattle.zone_pieces.specs.Filters.{replied};
-ghost use Rattle.zone_pieces.specs.Fronts.{fronts_rewritten};
-ghost use Rattle.zone_pieces.specs.Logs.{log_front};
-ghost use Rattle.zone_pieces.specs.Runs.{Ends, Finishes, Steps, Stops};
+ghost use Rattle.zone_pieces.specs.{Filters.{replied}, Fronts.{fronts_rewritten}, Logs.{log_front}, Runs.{Ends, Finishes, Steps, Stops}};
 
 use crate::filter::Filter;
 use crate::fronts::LineRewrites;

@@ -1,27 +1,15 @@
 -- A source that needs nothing stays as it is, and the lines of a source that isn't refused need nothing of it.
-use Rattle.std.proofs.Common.{◌≡◌, ℕ, suc, ◌+◌, ◌≤◌, List, [], ◌∷◌, ◌++◌, All, Bool, true, false, cond, Option, Some, None, Result, Ok, Err, IfOk, refl, sym, ap, ◌∙◌, subst, append_assoc, append-nil, nat_lt, arith, rules}
-use Rattle.std.specs.Prelude.{bytes_eq, option_to_list, unwrap_or, ◌||◌}
-use Rattle.std.specs.List.{sum_by}
-use Rattle.std.proofs.lemmas.Grind.{flat_map-append}
-use Rattle.std.specs.Option.{option_or}
-use Rattle.std.proofs.lemmas.Bool.{le-ltb, or_parts}
-use Rattle.std.proofs.lemmas.List.Elements.{All-nil, All-cons, All-head, All-tail}
-use Rattle.std.proofs.lemmas.List.Folds.{list_any-append}
-use Rattle.std.proofs.lemmas.List.Sums.{sum_by-cons}
+use Rattle.std.proofs.{Common.{◌≡◌, ℕ, suc, ◌+◌, ◌≤◌, List, [], ◌∷◌, ◌++◌, All, Bool, true, false, cond, Option, Some, None, Result, Ok, Err, IfOk, refl, sym, ap, ◌∙◌, subst, append_assoc, append-nil, nat_lt, arith, rules}, lemmas.Grind.{flat_map-append}}
+use Rattle.std.proofs.lemmas.{Bool.{le-ltb, or_parts}, List.Elements.{All-nil, All-cons, All-head, All-tail}, List.Folds.{list_any-append}, List.Sums.{sum_by-cons}}
+use Rattle.std.specs.{Prelude.{bytes_eq, option_to_list, unwrap_or, ◌||◌}, List.{sum_by}, Option.{option_or}}
 use Rattle.zone_outside.specs.Limit.{text_limit}
-use Rattle.zone_values.specs.Values.{InfoValue, LineValue, zone, continuation, link}
-use Rattle.zone_values.specs.Results.{◌>>=◌}
+use Rattle.zone_values.specs.{Values.{InfoValue, LineValue, zone, continuation, link}, Results.{◌>>=◌}}
 use Rattle.zone_plain_lines.specs.declared.cause.PlainCause.{PlainCause}
 use Rattle.zone_plain_lines.specs.declared.cause.PlainCause.TheVariants as cause
-use Rattle.zone_plain_base.specs.LineFaults.{onto}
-use Rattle.zone_plain_base.specs.Said.{is_said, if_said}
-use Rattle.zone_plain.proofs.Clean.{new_name, names_by, has, AreFresh, IsSound, AreClean}
-use Rattle.zone_plain.proofs.LeadsLaws.{is_zone_behind}
-use Rattle.zone_plain.specs.Declares.{zone_name, ruleset_name, is_that, declares, has_zone, target_of}
-use Rattle.zone_plain.specs.Needs.{NeedsNothing, IsPlain}
-use Rattle.zone_plain.proofs.SettledSaidLaws.{if_said_is}
-use Rattle.zone_plain.specs.Settled.{lacks_rules, link_after, settled_link, settled_line, link_size, settled_from, settled}
+use Rattle.zone_plain_base.specs.{LineFaults.{onto}, Said.{is_said, if_said}}
+use Rattle.zone_plain.proofs.{Clean.{new_name, names_by, has, AreFresh, IsSound, AreClean}, LeadsLaws.{is_zone_behind}, SettledSaidLaws.{if_said_is}}
 use Rattle.zone_plain.proofs.SettledLaws.{ok_is, no_ok, Becomes, as_link, as_nothing, becomes, continuation_is, zone_is, Steps, steps, line_stays, step_stays}
+use Rattle.zone_plain.specs.{Declares.{zone_name, ruleset_name, is_that, declares, has_zone, target_of}, Needs.{NeedsNothing, IsPlain}, Settled.{lacks_rules, link_after, settled_link, settled_line, link_size, settled_from, settled}}
 
 -- ---- names
 

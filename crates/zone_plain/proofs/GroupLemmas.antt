@@ -1,10 +1,6 @@
 -- Rules by their names, so far and in all.
-use Rattle.std.proofs.Common.{◌≡◌, ℕ, suc, ◌+◌, ◌<◌, ◌≤◌, List, [], ◌∷◌, ◌++◌, length, get_or, drop, refl, sym, ap, ◌∙◌, append_assoc, append-nil, arith, cond}
-use Rattle.std.specs.FinMap.{FinMap, get, empty, get-empty}
-use Rattle.std.proofs.lemmas.List.{drop_all, drop_more}
-use Rattle.basics.specs.Keyed.{text_cmp}
-use Rattle.basics.specs.KeyedLaws.{appended}
-use Rattle.basics.specs.Listed.{listed}
+use Rattle.std.{proofs.Common.{◌≡◌, ℕ, suc, ◌+◌, ◌<◌, ◌≤◌, List, [], ◌∷◌, ◌++◌, length, get_or, drop, refl, sym, ap, ◌∙◌, append_assoc, append-nil, arith, cond}, specs.FinMap.{FinMap, get, empty, get-empty}, proofs.lemmas.List.{drop_all, drop_more}}
+use Rattle.basics.specs.{Keyed.{text_cmp}, KeyedLaws.{appended}, Listed.{listed}}
 use Rattle.zone_values.specs.Values.{LineValue, space, rule}
 use Rattle.zone_plain.specs.ToldOffsets.{is_named, places_from, IsGrouped, with_place}
 

@@ -1,31 +1,15 @@
 -- A source that needs nothing is written line by line.
-use Rattle.std.proofs.Common.{◌≡◌, ℕ, suc, List, [], ◌∷◌, ◌++◌, ◌≤◌, All, Bool, true, false, cond, not, nat_lt, length, map, None, Some, Result, Ok, Err, IfOk, refl, ap, ◌∙◌, append-nil, subst}
-use Rattle.std.proofs.lemmas.Bool.{le-ltb}
-use Rattle.std.proofs.lemmas.List.Elements.{All-head, All-tail}
+use Rattle.std.proofs.{Common.{◌≡◌, ℕ, suc, List, [], ◌∷◌, ◌++◌, ◌≤◌, All, Bool, true, false, cond, not, nat_lt, length, map, None, Some, Result, Ok, Err, IfOk, refl, ap, ◌∙◌, append-nil, subst}, lemmas.Bool.{le-ltb}, lemmas.List.Elements.{All-head, All-tail}}
 use Rattle.zone_line.specs.Fields.{is_ruleset_name}
 use Rattle.zone_outside.specs.Limit.{text_limit}
 use Rattle.zone_source.specs.Lines.{lines_of}
-use Rattle.zone_values.specs.Values.{SavingValue, multiple, LineValue, zone, continuation, rule}
-use Rattle.zone_values.specs.Results.{◌>>=◌}
+use Rattle.zone_values.specs.{Values.{SavingValue, multiple, LineValue, zone, continuation, rule}, Results.{◌>>=◌}}
 use Rattle.zone_plain_lines.specs.declared.cause.PlainCause.{PlainCause}
 use Rattle.zone_plain_lines.specs.declared.cause.PlainCause.TheVariants as cause
-use Rattle.zone_plain_base.specs.LineFaults.{LineFault, at, bad_line, too_long, numbered, onto}
-use Rattle.zone_plain_base.specs.Said.{if_said}
-use Rattle.zone_plain_base.specs.Names.{said_name}
-use Rattle.zone_plain_base.specs.NameLaws.{stays_so}
-use Rattle.zone_plain_base.specs.Renamed.{saved_by, ruleset_of, saving_by, under, renamed}
-use Rattle.zone_plain.specs.Needs.{IsPlain}
-use Rattle.zone_plain.specs.Settled.{settled}
+use Rattle.zone_plain_base.specs.{LineFaults.{LineFault, at, bad_line, too_long, numbered, onto}, Said.{if_said}, Names.{said_name}, NameLaws.{stays_so}, Renamed.{saved_by, ruleset_of, saving_by, under, renamed}}
+use Rattle.zone_plain.specs.{Needs.{IsPlain}, Settled.{settled}, Made.{changed_by, changed, is_changed_said, name_in, made_for, made}, Pairs.{Pair, joined_by, pairs_from}, WrittenOut.{made_size, refused_from, written_unless, written_out}, Heads.{head_of}}
+use Rattle.zone_plain.specs.{Kept.{HasNoOffsets}, LineValues.{line_meaning, is_open_after, values_from, meant_in, mark_in, named, values_in}, Named.{IsSaidAsMeant}, Plain.{plain_of}, Written.{written}}
 use Rattle.zone_plain.proofs.CleanLaws.{plain_stays}
-use Rattle.zone_plain.specs.Made.{changed_by, changed, is_changed_said, name_in, made_for, made}
-use Rattle.zone_plain.specs.Pairs.{Pair, joined_by, pairs_from}
-use Rattle.zone_plain.specs.WrittenOut.{made_size, refused_from, written_unless, written_out}
-use Rattle.zone_plain.specs.Heads.{head_of}
-use Rattle.zone_plain.specs.Kept.{HasNoOffsets}
-use Rattle.zone_plain.specs.LineValues.{line_meaning, is_open_after, values_from, meant_in, mark_in, named, values_in}
-use Rattle.zone_plain.specs.Named.{IsSaidAsMeant}
-use Rattle.zone_plain.specs.Plain.{plain_of}
-use Rattle.zone_plain.specs.Written.{written}
 
 no_pairs : (pairs : List Pair) (values : List LineValue) → HasNoOffsets values → pairs_from pairs values ≡ pairs
 unfolding pairs_from

@@ -1,18 +1,10 @@
 -- A name and the names on its way.
-use Rattle.std.proofs.Common.{◌≡◌, ℕ, suc, ◌+◌, ◌≤◌, List, length, Bool, true, false, cond, Option, Some, None, refl, sym, ap, ◌∙◌, subst, arith, rules}
-use Rattle.std.specs.Prelude.{bytes_eq, is_some}
-use Rattle.std.specs.Option.{option_or}
-use Rattle.std.specs.FinMap.{FinMap, get, insert}
-use Rattle.std.specs.Cmp.Lexicographic.{bytes_decides}
-use Rattle.std.proofs.lemmas.Option.{none-some, same_Some}
-use Rattle.basics.specs.Keyed.{text_cmp}
-use Rattle.basics.specs.KeyedLaws.{get-inserted}
+use Rattle.std.proofs.{Common.{◌≡◌, ℕ, suc, ◌+◌, ◌≤◌, List, length, Bool, true, false, cond, Option, Some, None, refl, sym, ap, ◌∙◌, subst, arith, rules}, lemmas.Option.{none-some, same_Some}}
+use Rattle.std.specs.{Prelude.{bytes_eq, is_some}, Option.{option_or}, FinMap.{FinMap, get, insert}, Cmp.Lexicographic.{bytes_decides}}
+use Rattle.basics.specs.{Keyed.{text_cmp}, KeyedLaws.{get-inserted}}
 use Rattle.zone_values.specs.Values.{LineValue}
-use Rattle.zone_plain.specs.Declares.{has_zone, target_of}
-use Rattle.zone_plain.specs.Leads.{leads_to, zone_behind}
+use Rattle.zone_plain.specs.{Declares.{has_zone, target_of}, Leads.{leads_to, zone_behind}, Stands.{names_of, IsPlaced, IsDeclared, IsKept, IsKnown, IsBehind, LeadsTo}, declared.links.Declared.{Declared}}
 use Rattle.zone_plain.proofs.LeadsLaws.{followed, stuck, dead_end, rises, is_behind, behind_itself, behind_link}
-use Rattle.zone_plain.specs.Stands.{names_of, IsPlaced, IsDeclared, IsKept, IsKnown, IsBehind, LeadsTo}
-use Rattle.zone_plain.specs.declared.links.Declared.{Declared}
 
 -- a name leads where another does that is so many links on
 abbrev pub AreSteps : List LineValue → List ℕ → List ℕ → ℕ → Type 0

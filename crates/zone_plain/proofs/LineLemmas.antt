@@ -1,19 +1,9 @@
 -- What a line means, step by step.
-use Rattle.std.proofs.Common.{◌≡◌, ℕ, List, [], ◌∷◌, ◌++◌, Bool, false, true≢false, cond, Ok, Err, sym, ap, subst, ◌∙◌}
-use Rattle.std.specs.Prelude.{Option, Some, None, is_some, option_map, option_to_list}
-use Rattle.zone_values.specs.Values.{LineValue, line_value, space}
-use Rattle.zone_values.specs.declared.line.Line.{Line}
-use Rattle.zone_values.specs.declared.line.Line.TheVariants.{Space}
-use Rattle.zone_values.specs.Results.{◌>>=◌}
+use Rattle.std.{proofs.Common.{◌≡◌, ℕ, List, [], ◌∷◌, ◌++◌, Bool, false, true≢false, cond, Ok, Err, sym, ap, subst, ◌∙◌}, specs.Prelude.{Option, Some, None, is_some, option_map, option_to_list}}
+use Rattle.zone_values.specs.{Values.{LineValue, line_value, space}, declared.line.Line.{Line}, declared.line.Line.TheVariants.{Space}, Results.{◌>>=◌}}
 use Rattle.zone_plain_lines.specs.declared.cause.PlainCause.TheVariants as cause
-use Rattle.zone_plain_base.specs.Said.{is_said, if_said}
-use Rattle.zone_plain_base.specs.Told.{IsToldBy, IsRefused}
-use Rattle.zone_plain_base.specs.declared.error.Refused.{Refused}
-use Rattle.zone_plain_base.specs.declared.error.Refused.TheVariants.{Cause, NoMemory}
-use Rattle.zone_plain_base.specs.Renamed.{renamed}
-use Rattle.zone_plain.specs.LineValues.{line_meaning, named}
-use Rattle.zone_plain_base.specs.PlainTexts.{plain_text}
-use Rattle.zone_plain.specs.Told.{IsAddedLine, added_line}
+use Rattle.zone_plain_base.specs.{Said.{is_said, if_said}, Told.{IsToldBy, IsRefused}, declared.error.Refused.{Refused}, declared.error.Refused.TheVariants.{Cause, NoMemory}, Renamed.{renamed}, PlainTexts.{plain_text}}
+use Rattle.zone_plain.specs.{LineValues.{line_meaning, named}, Told.{IsAddedLine, added_line}}
 
 -- the cause that was told of a line
 pub told_refused : (mark : List ℕ) (is_open : Bool) (line : List ℕ) (r : Refused) → IsToldBy {A = Line} line_value (Err r) (line_meaning is_open line)

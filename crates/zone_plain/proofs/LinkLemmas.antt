@@ -1,22 +1,12 @@
 -- What becomes of a line, by what was found of it.
-use Rattle.std.proofs.Common.{◌≡◌, ℕ, List, [], ◌∷◌, ◌++◌, Bool, true, false, not, Option, Some, None, Ok, Err, refl, sym, ap, ◌∙◌, subst, rules}
-use Rattle.std.specs.Prelude.{bytes_eq, is_some, option_map, unwrap_or, ◌||◌, if◌then◌else◌}
-use Rattle.std.specs.FinMap.{get, insert, contains_key}
-use Rattle.std.proofs.lemmas.Option.{same_Some}
+use Rattle.std.proofs.{Common.{◌≡◌, ℕ, List, [], ◌∷◌, ◌++◌, Bool, true, false, not, Option, Some, None, Ok, Err, refl, sym, ap, ◌∙◌, subst, rules}, lemmas.Option.{same_Some}}
+use Rattle.std.specs.{Prelude.{bytes_eq, is_some, option_map, unwrap_or, ◌||◌, if◌then◌else◌}, FinMap.{get, insert, contains_key}}
 use Rattle.zone_values.specs.Values.{LineValue, InfoValue, RuleValue, multiple, space, zone, continuation, rule, link}
 use Rattle.zone_plain_lines.specs.declared.cause.PlainCause.TheVariants as cause
-use Rattle.zone_plain_base.specs.PlainTexts.{plain_text}
-use Rattle.zone_plain_base.specs.Said.{is_said}
-use Rattle.zone_plain_base.specs.declared.error.Refused.{Refused}
-use Rattle.zone_plain_base.specs.declared.error.Refused.TheVariants.{Cause, NoMemory}
-use Rattle.zone_plain.proofs.NameLemmas.{declares-more, declares-other, contains-inserted, link_known}
-use Rattle.zone_plain.proofs.TargetLaws.{target-other}
-use Rattle.zone_plain.specs.Declares.{zone_name, has_zone, target_by, target_of}
-use Rattle.zone_plain.specs.Settled.{lacks_rules, link_to, link_after, settled_link, settled_line}
-use Rattle.zone_plain.specs.Stands.{names_of, IsPlaced, IsDeclared, IsKnown, AddsTarget, LeadsTo, IsAt, IsLinkText, line_at_place}
-use Rattle.zone_plain_base.specs.Told.{IsRefused}
-use Rattle.zone_plain.specs.declared.links.Declared.{Declared}
-use Rattle.zone_plain.specs.declared.links.Seen.{Seen}
+use Rattle.zone_plain_base.specs.{PlainTexts.{plain_text}, Said.{is_said}, declared.error.Refused.{Refused}, declared.error.Refused.TheVariants.{Cause, NoMemory}, Told.{IsRefused}}
+use Rattle.zone_plain.proofs.{NameLemmas.{declares-more, declares-other, contains-inserted, link_known}, TargetLaws.{target-other}}
+use Rattle.zone_plain.specs.{Declares.{zone_name, has_zone, target_by, target_of}, Settled.{lacks_rules, link_to, link_after, settled_link, settled_line}, Stands.{names_of, IsPlaced, IsDeclared, IsKnown, AddsTarget, LeadsTo, IsAt, IsLinkText, line_at_place}}
+use Rattle.zone_plain.specs.declared.links.{Declared.{Declared}, Seen.{Seen}}
 
 pub lacks : (d : Declared) (values : List LineValue) (name : List ℕ) (has : Bool) → IsDeclared d values → has ≡ contains_key d.rulesets name
     → not has ≡ lacks_rules values (multiple name)

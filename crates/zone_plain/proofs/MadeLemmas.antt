@@ -1,17 +1,10 @@
 -- The rules at the places of a ruleset are its rules.
-use Rattle.std.proofs.Common.{◌≡◌, ℕ, zero, suc, ◌+◌, ℤ, Bool, true, false, cond, List, [], ◌∷◌, ◌++◌, length, map, get_or, drop, unwrap_or, ◌<◌, ◌≤◌, refl, sym, ap, ◌∙◌, append_assoc, append-nil, subst, arith}
-use Rattle.std.proofs.lemmas.Grind.{flat_map-append}
+use Rattle.std.proofs.{Common.{◌≡◌, ℕ, zero, suc, ◌+◌, ℤ, Bool, true, false, cond, List, [], ◌∷◌, ◌++◌, length, map, get_or, drop, unwrap_or, ◌<◌, ◌≤◌, refl, sym, ap, ◌∙◌, append_assoc, append-nil, subst, arith}, lemmas.Grind.{flat_map-append}}
 use Rattle.std.proofs.lemmas.List.{drop_all, drop_more, length-map}
-use Rattle.std.specs.Prelude.{◌&&◌, flat_map, bytes_eq}
-use Rattle.std.specs.List.{list_all}
-use Rattle.std.specs.FinMap.{FinMap, get}
-use Rattle.basics.specs.Keyed.{text_cmp}
-use Rattle.basics.specs.Listed.{listed}
-use Rattle.zone_plain.specs.Written.{line_text}
+use Rattle.std.specs.{Prelude.{◌&&◌, flat_map, bytes_eq}, List.{list_all}, FinMap.{FinMap, get}}
+use Rattle.basics.specs.{Keyed.{text_cmp}, Listed.{listed}}
+use Rattle.zone_plain.specs.{Written.{line_text}, Pairs.{Pair}, Made.{rules_named, made_rule, is_rule_said, rules_for, are_rules_said}, ToldOffsets.{value_in, places_from, IsGrouped, AreAdded, made_lines, is_made_said}}
 use Rattle.zone_values.specs.Values.{RuleValue, LineValue, space, rule}
-use Rattle.zone_plain.specs.Pairs.{Pair}
-use Rattle.zone_plain.specs.Made.{rules_named, made_rule, is_rule_said, rules_for, are_rules_said}
-use Rattle.zone_plain.specs.ToldOffsets.{value_in, places_from, IsGrouped, AreAdded, made_lines, is_made_said}
 
 shifted : (at k : ℕ) → suc at + k ≡ at + suc k
 shifted at k = omega arith

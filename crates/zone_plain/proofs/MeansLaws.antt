@@ -1,20 +1,10 @@
 -- Read as a source in any form, what is written means what was meant.
-use Rattle.std.proofs.Common.{◌≡◌, ℕ, suc, List, [], ◌∷◌, map, All, Bool, true, false, Ok, refl, sym, ap, ◌∙◌}
-use Rattle.std.specs.Prelude.{is_some}
-use Rattle.std.specs.Str.{is_utf8, chars}
-use Rattle.std.proofs.lemmas.Bool.{both_ways}
-use Rattle.std.proofs.lemmas.List.Elements.{All-head, All-tail}
+use Rattle.std.{proofs.Common.{◌≡◌, ℕ, suc, List, [], ◌∷◌, map, All, Bool, true, false, Ok, refl, sym, ap, ◌∙◌}, specs.Prelude.{is_some}, specs.Str.{is_utf8, chars}, proofs.lemmas.Bool.{both_ways}, proofs.lemmas.List.Elements.{All-head, All-tail}}
 use Rattle.zone_source.specs.Releases.{line_naming}
 use Rattle.zone_values.specs.Values.{LineValue, space, zone, continuation, rule, link}
-use Rattle.zone_plain_lines.specs.Meanings.{meaning}
-use Rattle.zone_plain_lines.specs.Quotes.{fields, laid_out, pieces, has_bad_quotes}
-use Rattle.zone_plain_base.specs.LineFaults.{onto}
-use Rattle.zone_plain_base.specs.Meant.{line_meaning, is_next}
-use Rattle.zone_plain_base.specs.SaidLaws.{meant_back}
-use Rattle.zone_plain_base.specs.PlainTexts.{plain_text}
-use Rattle.zone_plain.proofs.Followed.{are_followed}
-use Rattle.zone_plain.specs.LineValues.{is_open_after, values_from}
-use Rattle.zone_plain.specs.Named.{IsSaid}
+use Rattle.zone_plain_lines.specs.{Meanings.{meaning}, Quotes.{fields, laid_out, pieces, has_bad_quotes}}
+use Rattle.zone_plain_base.specs.{LineFaults.{onto}, Meant.{line_meaning, is_next}, SaidLaws.{meant_back}, PlainTexts.{plain_text}}
+use Rattle.zone_plain.{proofs.Followed.{are_followed}, specs.LineValues.{is_open_after, values_from}, specs.Named.{IsSaid}}
 
 -- a blank line means nothing, wherever it stands
 blank_means : (is_open : Bool) → line_meaning is_open [] ≡ Ok space

@@ -1,20 +1,11 @@
 -- What is declared with a line more.
-use Rattle.std.proofs.Common.{◌≡◌, ℕ, zero, suc, ◌+◌, ◌<◌, List, [], ◌∷◌, ◌++◌, length, map, Bool, true, false, cond, Option, Some, None, refl, sym, ap, ◌∙◌, subst, arith, rules}
-use Rattle.std.specs.Prelude.{bytes_eq, is_some, slice_get, ◌||◌, take, get_or}
-use Rattle.std.specs.Option.{option_or}
-use Rattle.std.specs.FinMap.{FinMap, get, insert, empty, get-empty, contains_key}
-use Rattle.std.specs.Cmp.Lexicographic.{bytes_decides}
-use Rattle.std.proofs.Math.Bool.{or-false, or-true, or_assoc}
-use Rattle.basics.specs.Keyed.{text_cmp}
-use Rattle.basics.specs.KeyedLaws.{get-inserted}
-use Rattle.zone_values.specs.Values.{LineValue, InfoValue, RuleValue, line_value, space, zone, rule, link}
-use Rattle.zone_values.specs.declared.line.Line.{Line}
-use Rattle.zone_values.specs.declared.line.Line.TheVariants.{Space}
+use Rattle.std.proofs.{Common.{◌≡◌, ℕ, zero, suc, ◌+◌, ◌<◌, List, [], ◌∷◌, ◌++◌, length, map, Bool, true, false, cond, Option, Some, None, refl, sym, ap, ◌∙◌, subst, arith, rules}, Math.Bool.{or-false, or-true, or_assoc}}
 use Rattle.std.proofs.lemmas.List.{get_or-map, length-map, take_more}
-use Rattle.zone_plain.specs.Declares.{zone_name, ruleset_name, is_that, declares, has_zone, target_by, target_of}
+use Rattle.std.specs.{Prelude.{bytes_eq, is_some, slice_get, ◌||◌, take, get_or}, Option.{option_or}, FinMap.{FinMap, get, insert, empty, get-empty, contains_key}, Cmp.Lexicographic.{bytes_decides}}
+use Rattle.basics.specs.{Keyed.{text_cmp}, KeyedLaws.{get-inserted}}
+use Rattle.zone_values.specs.{Values.{LineValue, InfoValue, RuleValue, line_value, space, zone, rule, link}, declared.line.Line.{Line}, declared.line.Line.TheVariants.{Space}}
+use Rattle.zone_plain.specs.{Declares.{zone_name, ruleset_name, is_that, declares, has_zone, target_by, target_of}, Stands.{names_of, IsPlaced, IsDeclared, AddsTarget}, declared.links.Declared.{Declared}}
 use Rattle.zone_plain.proofs.TargetLaws.{target-more, or_none, target-other}
-use Rattle.zone_plain.specs.Stands.{names_of, IsPlaced, IsDeclared, AddsTarget}
-use Rattle.zone_plain.specs.declared.links.Declared.{Declared}
 
 pub declares-more : (name_of : LineValue → Option (List ℕ)) (vs : List LineValue) (v : LineValue) (name : List ℕ)
     → declares name_of (vs ++ v ∷ []) name ≡ (declares name_of vs name || is_that (name_of v) name)

@@ -1,7 +1,5 @@
 -- Two totals have one text only where they are one.
-use Rattle.std.proofs.Common.{◌≡◌, ℕ, suc, ◌+◌, ◌/◌, ◌%◌, ℤ, pos, negsuc, Bool, true, false, cond, List, [], ◌∷◌, ◌++◌, get_or, drop, refl, sym, ap, ◌∙◌, arith}
-use Rattle.std.proofs.lemmas.Bool.Decides.{nat_tests}
-use Rattle.std.specs.Prelude.{◌==◌, int_lt}
+use Rattle.std.{proofs.Common.{◌≡◌, ℕ, suc, ◌+◌, ◌/◌, ◌%◌, ℤ, pos, negsuc, Bool, true, false, cond, List, [], ◌∷◌, ◌++◌, get_or, drop, refl, sym, ap, ◌∙◌, arith}, proofs.lemmas.Bool.Decides.{nat_tests}, specs.Prelude.{◌==◌, int_lt}}
 use Rattle.zone_plain_base.specs.PlainTexts.{two_digits}
 use Rattle.zone_plain.specs.OffsetTexts.{seconds_text, minutes_text, offset_text}
 

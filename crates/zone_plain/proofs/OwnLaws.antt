@@ -1,57 +1,20 @@
 -- What is written of a source is its own plain form.
-use Rattle.std.proofs.Common.{◌≡◌, ℕ, ◌<◌, ◌≤◌, List, [], ◌∷◌, ◌++◌, All, Bool, true, false, cond, not, filter, flat_map, map, length, Option, Some, None, Result, Ok, Err, refl, sym, ap, ◌∙◌, subst, arith, rules}
-use Rattle.std.specs.Prelude.{bytes_eq, ◌||◌, option_to_list, slice_get, option_and_then}
-use Rattle.std.specs.List.{sum_by}
-use Rattle.std.specs.Option.{option_map_or}
-use Rattle.std.specs.Str.{is_utf8}
-use Rattle.std.proofs.lemmas.Bool.{both_ways, or_left, or_right}
-use Rattle.std.proofs.lemmas.List.{length-append}
-use Rattle.std.proofs.lemmas.List.Elements.{All-nil, All-cons, All-head, All-tail, All-append, All-weaker}
-use Rattle.std.proofs.lemmas.List.Folds.{list_any-append}
-use Rattle.std.proofs.lemmas.List.Sums.{sum_by-cons}
-use Rattle.std.proofs.lemmas.Slice.Eq.{bytes_eq-Decides}
+use Rattle.std.proofs.{Common.{◌≡◌, ℕ, ◌<◌, ◌≤◌, List, [], ◌∷◌, ◌++◌, All, Bool, true, false, cond, not, filter, flat_map, map, length, Option, Some, None, Result, Ok, Err, refl, sym, ap, ◌∙◌, subst, arith, rules}, lemmas.Bool.{both_ways, or_left, or_right}}
+use Rattle.std.proofs.lemmas.{List.{length-append}, List.Elements.{All-nil, All-cons, All-head, All-tail, All-append, All-weaker}, List.Folds.{list_any-append}, List.Sums.{sum_by-cons}, Slice.Eq.{bytes_eq-Decides}}
+use Rattle.std.specs.{Prelude.{bytes_eq, ◌||◌, option_to_list, slice_get, option_and_then}, List.{sum_by}, Option.{option_map_or}, Str.{is_utf8}}
 use Rattle.zone_outside.specs.Limit.{text_limit}
-use Rattle.zone_source.specs.ReleaseLaws.{named_line}
-use Rattle.zone_source.specs.Releases.{line_naming, named_by, release_of}
-use Rattle.zone_source.specs.Lines.{lines_of}
-use Rattle.zone_values.specs.Results.{◌>>=◌}
-use Rattle.zone_values.specs.Seconds.{seconds_of}
-use Rattle.zone_values.specs.Values.{SavingValue, no_saving, one_off, multiple, InfoValue, RuleValue, LineValue, space, zone, continuation, rule, link}
+use Rattle.zone_source.specs.{ReleaseLaws.{named_line}, Releases.{line_naming, named_by, release_of}, Lines.{lines_of}}
+use Rattle.zone_values.specs.{Results.{◌>>=◌}, Seconds.{seconds_of}, Values.{SavingValue, no_saving, one_off, multiple, InfoValue, RuleValue, LineValue, space, zone, continuation, rule, link}}
 use Rattle.zone_plain_lines.specs.declared.cause.PlainCause.{PlainCause}
 use Rattle.zone_plain_lines.specs.declared.cause.PlainCause.TheVariants as cause
-use Rattle.zone_plain_base.specs.LineFaults.{LineFault, numbered, onto}
-use Rattle.zone_plain_base.specs.Meant.{line_meaning}
-use Rattle.zone_plain_base.specs.Said.{is_said}
-use Rattle.zone_plain_base.specs.SaidLaws.{name_said, no_text}
-use Rattle.zone_plain.proofs.Clean.{new_name, names_by, has, AreFresh, IsSound, AreClean}
-use Rattle.zone_plain.proofs.CleanLaws.{declares_is, names_append, clean_stays, clean_from, are_settled, rulesets_stay}
-use Rattle.zone_plain.specs.Declares.{zone_name, ruleset_name, has_zone, has_ruleset}
-use Rattle.zone_plain.specs.Settled.{lacks_rules, link_size, settled}
-use Rattle.zone_plain.proofs.SettledLaws.{no_ok, zones_stay}
-use Rattle.zone_plain.specs.AbbreviationLaws.{among_stays}
-use Rattle.zone_plain.specs.Formats.{Around, around_mark}
-use Rattle.zone_plain.specs.Made.{made_rule, rules_named, rules_for, changed_by, changed, name_in, made_for, made}
-use Rattle.zone_plain.specs.MadeLaws.{written_is}
-use Rattle.zone_plain.specs.NoneLeftLaws.{none_left}
-use Rattle.zone_plain.specs.PairLaws.{same_pair, among_with}
-use Rattle.zone_plain.specs.Pairs.{Pair, Asked, nothing, total, under, asked_under, asked_by, asked, is_same, is_among, joined_by, pairs_from, pairs_of}
-use Rattle.zone_plain.specs.WrittenOut.{written_out}
-use Rattle.zone_plain_base.specs.PlainTexts.{plain_text}
-use Rattle.zone_plain.specs.Heads.{head_of, head_with, head_values}
-use Rattle.zone_plain.specs.Kept.{HasNoOffsets}
-use Rattle.zone_plain.proofs.KeptLaws.{names_stay, kept_by}
-use Rattle.zone_plain.specs.LineValues.{is_open_after, values_from, mark_in, named, values_in}
-use Rattle.zone_plain.proofs.MeansLaws.{heading_means}
-use Rattle.zone_plain.specs.Named.{IsSaid, IsSaidAsMeant, named_lines}
-use Rattle.zone_plain.proofs.PartLemmas.{parts_give}
-use Rattle.zone_plain.proofs.PartLaws.{parts_zones, parts_links, parts_rules, out_zones, out_links, out_rules}
-use Rattle.zone_plain.specs.Plain.{plain_of}
-use Rattle.zone_plain.proofs.ReadBackLaws.{IsPlaced, read_as_meant}
-use Rattle.zone_plain.proofs.PlacedLaws.{parts_followed}
-use Rattle.zone_plain.proofs.RebuiltLaws.{headed}
-use Rattle.zone_plain.specs.Written.{Part, Rules, Zones, Links, is_in, written}
-use Rattle.zone_plain.specs.WrittenLines.{in_parts}
+use Rattle.zone_plain_base.specs.{LineFaults.{LineFault, numbered, onto}, Meant.{line_meaning}, Said.{is_said}, SaidLaws.{name_said, no_text}, PlainTexts.{plain_text}}
+use Rattle.zone_plain.proofs.{Clean.{new_name, names_by, has, AreFresh, IsSound, AreClean}, CleanLaws.{declares_is, names_append, clean_stays, clean_from, are_settled, rulesets_stay}, SettledLaws.{no_ok, zones_stay}, KeptLaws.{names_stay, kept_by}}
+use Rattle.zone_plain.proofs.{MeansLaws.{heading_means}, PartLemmas.{parts_give}, PartLaws.{parts_zones, parts_links, parts_rules, out_zones, out_links, out_rules}, ReadBackLaws.{IsPlaced, read_as_meant}, PlacedLaws.{parts_followed}, RebuiltLaws.{headed}}
 use Rattle.zone_plain.proofs.WrittenLinesLaws.{written_is as written_in_parts, in_all_parts}
+use Rattle.zone_plain.specs.{Declares.{zone_name, ruleset_name, has_zone, has_ruleset}, Settled.{lacks_rules, link_size, settled}, AbbreviationLaws.{among_stays}, Formats.{Around, around_mark}}
+use Rattle.zone_plain.specs.{Made.{made_rule, rules_named, rules_for, changed_by, changed, name_in, made_for, made}, MadeLaws.{written_is}, NoneLeftLaws.{none_left}, PairLaws.{same_pair, among_with}}
+use Rattle.zone_plain.specs.{Pairs.{Pair, Asked, nothing, total, under, asked_under, asked_by, asked, is_same, is_among, joined_by, pairs_from, pairs_of}, WrittenOut.{written_out}, Heads.{head_of, head_with, head_values}, Kept.{HasNoOffsets}}
+use Rattle.zone_plain.specs.{LineValues.{is_open_after, values_from, mark_in, named, values_in}, Named.{IsSaid, IsSaidAsMeant, named_lines}, Plain.{plain_of}, Written.{Part, Rules, Zones, Links, is_in, written}, WrittenLines.{in_parts}}
 
 -- ---- rulesets that are made are there
 

@@ -1,18 +1,9 @@
 -- The names that lines give, by the parts of what is written.
-use Rattle.std.proofs.Common.{◌≡◌, ℕ, List, [], ◌∷◌, ◌++◌, map, true, Option, None, Ok, refl, ap, ◌∙◌, append-nil}
-use Rattle.std.specs.Prelude.{option_to_list}
-use Rattle.std.proofs.lemmas.Bool.{both_ways}
+use Rattle.std.{proofs.Common.{◌≡◌, ℕ, List, [], ◌∷◌, ◌++◌, map, true, Option, None, Ok, refl, ap, ◌∙◌, append-nil}, specs.Prelude.{option_to_list}, proofs.lemmas.Bool.{both_ways}}
 use Rattle.zone_values.specs.Values.{InfoValue, RuleValue, LineValue, zone, continuation, rule, link}
-use Rattle.zone_plain.proofs.Clean.{new_name, names_by}
-use Rattle.zone_plain.proofs.CleanLaws.{names_append}
-use Rattle.zone_plain.specs.Declares.{zone_name, ruleset_name}
-use Rattle.zone_plain.specs.Made.{made_rule, rules_named, rules_for, changed_by, changed, name_in, made_for, made}
-use Rattle.zone_plain.specs.MadeLaws.{written_is}
-use Rattle.zone_plain.specs.Pairs.{Pair, Asked, total, under, asked, pairs_of}
-use Rattle.zone_plain.specs.WrittenOut.{written_out}
-use Rattle.zone_plain.proofs.PartLemmas.{GivesIn, parts_give}
-use Rattle.zone_plain.specs.Written.{Rules, Zones, Links}
-use Rattle.zone_plain.specs.WrittenLines.{in_parts}
+use Rattle.zone_plain.proofs.{Clean.{new_name, names_by}, CleanLaws.{names_append}, PartLemmas.{GivesIn, parts_give}}
+use Rattle.zone_plain.specs.{Declares.{zone_name, ruleset_name}, Made.{made_rule, rules_named, rules_for, changed_by, changed, name_in, made_for, made}, MadeLaws.{written_is}, Pairs.{Pair, Asked, total, under, asked, pairs_of}, WrittenOut.{written_out}}
+use Rattle.zone_plain.specs.{Written.{Rules, Zones, Links}, WrittenLines.{in_parts}}
 
 -- what a line gives as a name
 abbrev Naming : Type 0

@@ -1,28 +1,15 @@
 -- The lines of zones that are written stand in their places, each where one has to follow.
-use Rattle.std.proofs.Common.{◌≡◌, ℕ, suc, ◌+◌, List, [], ◌∷◌, ◌++◌, map, filter, Bool, true, false, cond, not, Option, Some, None, Result, Ok, Err, IfOk, refl, nat_lt}
-use Rattle.std.specs.Prelude.{is_some}
-use Rattle.std.proofs.lemmas.Bool.{both_ways, and_parts, and_from}
+use Rattle.std.{proofs.Common.{◌≡◌, ℕ, suc, ◌+◌, List, [], ◌∷◌, ◌++◌, map, filter, Bool, true, false, cond, not, Option, Some, None, Result, Ok, Err, IfOk, refl, nat_lt}, specs.Prelude.{is_some}, proofs.lemmas.Bool.{both_ways, and_parts, and_from}}
 use Rattle.zone_outside.specs.Limit.{text_limit}
-use Rattle.zone_values.specs.Values.{RuleValue, LineValue, space, zone, continuation, rule, link}
+use Rattle.zone_values.specs.{Values.{RuleValue, LineValue, space, zone, continuation, rule, link}, Results.{◌>>=◌}}
 use Rattle.zone_source.specs.Lines.{lines_of}
-use Rattle.zone_values.specs.Results.{◌>>=◌}
 use Rattle.zone_plain_lines.specs.declared.cause.PlainCause.{PlainCause}
 use Rattle.zone_plain_lines.specs.declared.cause.PlainCause.TheVariants as cause
-use Rattle.zone_plain_base.specs.LineFaults.{LineFault, Refusal, too_long, numbered, by_line, onto}
-use Rattle.zone_plain_base.specs.MeantLaws.{holds, either}
-use Rattle.zone_plain_base.specs.Said.{is_said, if_said}
-use Rattle.zone_plain_base.specs.Renamed.{renamed}
-use Rattle.zone_plain.specs.Declares.{has_zone, target_of}
-use Rattle.zone_plain.specs.Leads.{zone_behind}
-use Rattle.zone_plain.specs.Settled.{lacks_rules, link_to, link_after, settled_link, settled_line, link_size, settled_from, settled}
-use Rattle.zone_plain.specs.Made.{changed_by, changed, made_rule, name_in, rules_named, made_for, made}
-use Rattle.zone_plain.specs.Pairs.{Pair, Asked, nothing, total, under, asked, pairs_of}
-use Rattle.zone_plain.specs.WrittenOut.{refused_from, written_unless, written_out}
-use Rattle.zone_plain.specs.LineValues.{line_meaning, is_open_after, values_from, mark_in, named, values_in}
-use Rattle.zone_plain.proofs.Followed.{are_followed}
-use Rattle.zone_plain.proofs.Placed.{are_placed}
-use Rattle.zone_plain.specs.Written.{Rules, Zones, Links, is_in}
-use Rattle.zone_plain.specs.WrittenLines.{in_parts}
+use Rattle.zone_plain_base.specs.{LineFaults.{LineFault, Refusal, too_long, numbered, by_line, onto}, MeantLaws.{holds, either}, Said.{is_said, if_said}, Renamed.{renamed}}
+use Rattle.zone_plain.specs.{Declares.{has_zone, target_of}, Leads.{zone_behind}, Settled.{lacks_rules, link_to, link_after, settled_link, settled_line, link_size, settled_from, settled}}
+use Rattle.zone_plain.specs.{Made.{changed_by, changed, made_rule, name_in, rules_named, made_for, made}, Pairs.{Pair, Asked, nothing, total, under, asked, pairs_of}, WrittenOut.{refused_from, written_unless, written_out}}
+use Rattle.zone_plain.specs.{LineValues.{line_meaning, is_open_after, values_from, mark_in, named, values_in}, Written.{Rules, Zones, Links, is_in}, WrittenLines.{in_parts}}
+use Rattle.zone_plain.proofs.{Followed.{are_followed}, Placed.{are_placed}}
 
 -- lines that follow where they have to follow a line of a zone
 placed_more : (b : Bool) (values : List LineValue) → are_placed false values ≡ true → are_placed b values ≡ true

@@ -1,13 +1,8 @@
 -- What is written, stage by stage.
-use Rattle.std.proofs.Common.{◌≡◌, ◌<◌, ◌≤◌, ℕ, List, ◌++◌, length, Ok, Err, refl, sym}
-use Rattle.std.proofs.lemmas.Bool.{le-ltb, lt-ltb}
+use Rattle.std.proofs.{Common.{◌≡◌, ◌<◌, ◌≤◌, ℕ, List, ◌++◌, length, Ok, Err, refl, sym}, lemmas.Bool.{le-ltb, lt-ltb}}
 use Rattle.zone_values.specs.Values.{LineValue}
 use Rattle.zone_plain_base.specs.LineFaults.{too_long}
-use Rattle.zone_plain.specs.WrittenOut.{IsWrittenAs}
-use Rattle.zone_plain.specs.Heads.{head_of}
-use Rattle.zone_plain.specs.LineValues.{values_in}
-use Rattle.zone_plain.specs.Settled.{settled}
-use Rattle.zone_plain.specs.Plain.{if_short, plain_of}
+use Rattle.zone_plain.specs.{WrittenOut.{IsWrittenAs}, Heads.{head_of}, LineValues.{values_in}, Settled.{settled}, Plain.{if_short, plain_of}}
 
 -- what is written, before its length is told
 pub all_written : (source head : List ℕ) (values read given linked out : List LineValue) (body : List ℕ) → head_of source ≡ Ok head

@@ -1,25 +1,10 @@
 -- Each line that is written is read as it is meant.
-use Rattle.std.proofs.Common.{◌≡◌, ℕ, List, ◌++◌, ◌≤◌, All, true, false, Result, Ok, Err, IfOk, refl, sym, subst, length, nat_lt, ap, ◌∙◌}
-use Rattle.std.proofs.lemmas.Bool.{ltb-false}
-use Rattle.std.proofs.lemmas.List.Elements.{All-weaker}
+use Rattle.std.proofs.{Common.{◌≡◌, ℕ, List, ◌++◌, ◌≤◌, All, true, false, Result, Ok, Err, IfOk, refl, sym, subst, length, nat_lt, ap, ◌∙◌}, lemmas.Bool.{ltb-false}, lemmas.List.Elements.{All-weaker}}
 use Rattle.zone_outside.specs.Limit.{text_limit}
 use Rattle.zone_values.specs.Values.{LineValue}
-use Rattle.zone_plain_base.specs.LineFaults.{LineFault, by_line}
-use Rattle.zone_plain_base.specs.MeantLaws.{then_ok, either}
-use Rattle.zone_plain_base.specs.SaidLaws.{read_back, one_line}
-use Rattle.zone_plain.proofs.SettledSaidLaws.{settled_said}
-use Rattle.zone_plain.specs.Settled.{settled}
-use Rattle.zone_plain.specs.SaidLaws.{written_out_said}
-use Rattle.zone_plain.specs.WrittenOut.{written_out}
-use Rattle.zone_plain.specs.Heads.{head_of}
-use Rattle.zone_plain.specs.LineValues.{values_in}
-use Rattle.zone_plain.specs.Named.{IsSaid, named_lines}
-use Rattle.zone_plain.proofs.NamedLaws.{is_named}
-use Rattle.zone_plain.proofs.Followed.{are_followed}
-use Rattle.zone_plain.proofs.PlacedLaws.{StaysFollowed, source_followed, settled_followed, out_followed}
-use Rattle.zone_plain.specs.Plain.{plain_of}
-use Rattle.zone_plain.specs.ReadBack.{IsReadAsMeant, IsReadBack}
-use Rattle.zone_plain.specs.Written.{written}
+use Rattle.zone_plain_base.specs.{LineFaults.{LineFault, by_line}, MeantLaws.{then_ok, either}, SaidLaws.{read_back, one_line}}
+use Rattle.zone_plain.proofs.{SettledSaidLaws.{settled_said}, NamedLaws.{is_named}, Followed.{are_followed}, PlacedLaws.{StaysFollowed, source_followed, settled_followed, out_followed}}
+use Rattle.zone_plain.specs.{Settled.{settled}, SaidLaws.{written_out_said}, WrittenOut.{written_out}, Heads.{head_of}, LineValues.{values_in}, Named.{IsSaid, named_lines}, Plain.{plain_of}, ReadBack.{IsReadAsMeant, IsReadBack}, Written.{written}}
 
 -- what can be said is read as it is meant
 pub said_is_read : (v : LineValue) → IsSaid v → IsReadAsMeant v

@@ -1,36 +1,14 @@
 -- A source of what is written has the values that were written, behind the line of the release.
-use Rattle.std.proofs.Common.{◌≡◌, ℕ, List, [], ◌∷◌, ◌++◌, map, All, Bool, true, false, cond, Option, Some, None, Result, Ok, Err, refl, sym, ap, ◌∙◌, subst, rules}
-use Rattle.std.proofs.lemmas.Bool.{and_parts}
-use Rattle.std.proofs.lemmas.List.Elements.{All-cons}
-use Rattle.std.specs.Prelude.{slice_get, option_and_then}
-use Rattle.std.specs.Result.{result_unwrap_or}
-use Rattle.std.specs.Str.{is_utf8}
+use Rattle.std.proofs.{Common.{◌≡◌, ℕ, List, [], ◌∷◌, ◌++◌, map, All, Bool, true, false, cond, Option, Some, None, Result, Ok, Err, refl, sym, ap, ◌∙◌, subst, rules}, lemmas.Bool.{and_parts}, lemmas.List.Elements.{All-cons}}
+use Rattle.std.specs.{Prelude.{slice_get, option_and_then}, Result.{result_unwrap_or}, Str.{is_utf8}}
 use Rattle.zone_line.specs.LineValues.{value}
-use Rattle.zone_source.specs.ReleaseLines.{IsReleaseLine}
-use Rattle.zone_source.specs.ReleaseLaws.{release_line}
-use Rattle.zone_source.specs.Releases.{line_naming, named_by, release_of}
-use Rattle.zone_source.specs.Lines.{lines_of}
-use Rattle.zone_source.specs.Zones.{source_value, values_of}
+use Rattle.zone_source.specs.{ReleaseLines.{IsReleaseLine}, ReleaseLaws.{release_line}, Releases.{line_naming, named_by, release_of}, Lines.{lines_of}, Zones.{source_value, values_of}}
 use Rattle.zone_values.specs.Values.{LineValue, space}
 use Rattle.zone_plain_lines.specs.declared.cause.PlainCause.TheVariants as cause
-use Rattle.zone_plain_base.specs.LineFaults.{at, onto}
-use Rattle.zone_plain_base.specs.Said.{is_read_as}
-use Rattle.zone_plain_base.specs.SaidLaws.{read_as}
-use Rattle.zone_plain_base.specs.PlainTexts.{plain_text, info_text, stretch_text, rule_text, years_text}
-use Rattle.zone_plain.proofs.Followed.{are_followed}
-use Rattle.zone_plain.specs.Heads.{is_silent, head_with, head_of, head_values}
-use Rattle.zone_plain.proofs.JoinedLaws.{blank_first, alike_both, parts_alike}
-use Rattle.zone_plain.specs.LineValues.{values_from, meant_in}
-use Rattle.zone_plain.proofs.MeansLaws.{heading_means, step, texts_mean}
-use Rattle.zone_plain.specs.Named.{IsSaid}
-use Rattle.zone_plain.proofs.PlacedLaws.{followed_placed, parts_followed}
-use Rattle.zone_plain.specs.Plain.{plain_of}
-use Rattle.zone_plain.specs.ReadBack.{IsReadAsMeant}
-use Rattle.zone_plain.proofs.ReadBackLaws.{read_as_meant}
-use Rattle.zone_plain.specs.Rebuilt.{IsRebuilt}
-use Rattle.zone_plain.specs.Written.{written}
-use Rattle.zone_plain.specs.WrittenLines.{IsLine, JoinAlike, in_parts}
+use Rattle.zone_plain_base.specs.{LineFaults.{at, onto}, Said.{is_read_as}, SaidLaws.{read_as}, PlainTexts.{plain_text, info_text, stretch_text, rule_text, years_text}}
+use Rattle.zone_plain.proofs.{Followed.{are_followed}, JoinedLaws.{blank_first, alike_both, parts_alike}, MeansLaws.{heading_means, step, texts_mean}, PlacedLaws.{followed_placed, parts_followed}, ReadBackLaws.{read_as_meant}}
 use Rattle.zone_plain.proofs.WrittenLinesLaws.{line_text, written_is, lines_are, texts_are, all_lines, all_say, in_all_parts}
+use Rattle.zone_plain.specs.{Heads.{is_silent, head_with, head_of, head_values}, LineValues.{values_from, meant_in}, Named.{IsSaid}, Plain.{plain_of}, ReadBack.{IsReadAsMeant}, Rebuilt.{IsRebuilt}, Written.{written}, WrittenLines.{IsLine, JoinAlike, in_parts}}
 
 -- what two `Ok` have is one
 ok_same : {A E : Type 0} (x y : A) → ◌≡◌ {A = Result A E} (Ok x) (Ok y) → x ≡ y

@@ -1,9 +1,7 @@
 -- What is due, by what was found.
 use Rattle.std.proofs.Common.{◌≡◌, ℕ, List, None, Ok, IsSome, refl, sym, ap, ◌∙◌, subst}
-use Rattle.zone_plain.specs.Causes.{cause, due_bytes, refusal_in, bytes_for, IsFaultLine}
-use Rattle.zone_plain_base.specs.LineFaults.{IsFaultOf}
-use Rattle.zone_plain.specs.Plain.{plain_of}
-use Rattle.zone_plain_base.specs.declared.error.PlainFault.{PlainFault}
+use Rattle.zone_plain.specs.{Causes.{cause, due_bytes, refusal_in, bytes_for, IsFaultLine}, Plain.{plain_of}}
+use Rattle.zone_plain_base.specs.{LineFaults.{IsFaultOf}, declared.error.PlainFault.{PlainFault}}
 use Rattle.zone_plain_base.specs.declared.error.PlainFault.TheVariants as fault
 
 pub answered : (source bytes : List ℕ) → plain_of source ≡ Ok bytes → (cause source ≡ None) × (bytes ≡ due_bytes source)

@@ -1,23 +1,14 @@
 -- What becomes of a source as a whole: each link leads to a zone, and what needs nothing stays.
 use Rattle.std.proofs.Common.{◌≡◌, ℕ, suc, ◌+◌, List, [], ◌∷◌, ◌++◌, Bool, true, false, cond, Option, Some, None, Result, Ok, Err, refl, sym, ap, ◌∙◌, subst, nat_lt, rules}
-use Rattle.std.specs.Prelude.{bytes_eq, ◌&&◌, ◌||◌, is_some, option_and_then}
-use Rattle.std.specs.Result.{result_unwrap_or}
-use Rattle.std.specs.Cmp.Lexicographic.{bytes_decides}
-use Rattle.std.specs.List.{list_all}
-use Rattle.std.specs.Option.{option_or}
+use Rattle.std.specs.{Prelude.{bytes_eq, ◌&&◌, ◌||◌, is_some, option_and_then}, Result.{result_unwrap_or}, Cmp.Lexicographic.{bytes_decides}, List.{list_all}, Option.{option_or}}
 use Rattle.zone_outside.specs.Limit.{text_limit}
-use Rattle.zone_values.specs.Values.{LineValue, InfoValue, space, zone, continuation, link}
-use Rattle.zone_values.specs.Results.{◌>>=◌}
+use Rattle.zone_values.specs.{Values.{LineValue, InfoValue, space, zone, continuation, link}, Results.{◌>>=◌}}
 use Rattle.zone_plain_lines.specs.declared.cause.PlainCause.{PlainCause}
 use Rattle.zone_plain_lines.specs.declared.cause.PlainCause.TheVariants as cause
-use Rattle.zone_plain_base.specs.LineFaults.{Refusal, too_long, numbered, by_line, onto}
-use Rattle.zone_plain_base.specs.Said.{is_said, if_said}
-use Rattle.zone_plain.specs.Declares.{zone_name, is_that, has_zone, target_by, target_of}
-use Rattle.zone_plain.proofs.TargetLaws.{target-more, or_none}
-use Rattle.zone_plain.specs.Leads.{zone_behind}
-use Rattle.zone_plain.proofs.LeadsLaws.{is_zone_behind, behind_itself}
-use Rattle.zone_plain.specs.Needs.{is_to_zone, has_zones_as_targets, NeedsNothing}
+use Rattle.zone_plain_base.specs.{LineFaults.{Refusal, too_long, numbered, by_line, onto}, Said.{is_said, if_said}}
+use Rattle.zone_plain.specs.{Declares.{zone_name, is_that, has_zone, target_by, target_of}, Leads.{zone_behind}, Needs.{is_to_zone, has_zones_as_targets, NeedsNothing}}
 use Rattle.zone_plain.specs.Settled.{lacks_rules, link_to, link_after, settled_link, settled_line, link_size, settled_from, settled}
+use Rattle.zone_plain.proofs.{TargetLaws.{target-more, or_none}, LeadsLaws.{is_zone_behind, behind_itself}}
 
 pub ok_is : {A E : Type 0} {a b : A} → ◌≡◌ {A = Result A E} (Ok a) (Ok b) → a ≡ b
 ok_is {a = a} e = ap (λ r. result_unwrap_or r a) e

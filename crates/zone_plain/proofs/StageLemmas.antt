@@ -1,23 +1,13 @@
 -- The lines that were settled, and those that are left.
 use Rattle.std.proofs.Common.{◌≡◌, ℕ, suc, ◌+◌, ◌-◌, ◌≤◌, ◌<◌, List, [], ◌∷◌, ◌++◌, map, length, take, drop, get_or, true, false, nat_lt, Result, Ok, Err, refl, sym, ap, ◌∙◌, subst, arith, append_assoc, append-nil}
-use Rattle.std.specs.Prelude.{is_some}
-use Rattle.std.specs.FinMap.{get, empty, get-empty}
-use Rattle.std.proofs.lemmas.List.{drop_all, drop_more, get_or-map, length-map, map-append, take_more}
-use Rattle.std.proofs.lemmas.Bool.{ltb-false, le-ltb, lt-ltb}
+use Rattle.std.proofs.lemmas.{List.{drop_all, drop_more, get_or-map, length-map, map-append, take_more}, Bool.{ltb-false, le-ltb, lt-ltb}}
+use Rattle.std.specs.{Prelude.{is_some}, FinMap.{get, empty, get-empty}}
 use Rattle.basics.specs.Keyed.{text_cmp}
 use Rattle.zone_outside.specs.Limit.{text_limit}
-use Rattle.zone_values.specs.Values.{LineValue, line_value, space}
-use Rattle.zone_values.specs.declared.line.Line.{Line}
-use Rattle.zone_values.specs.declared.line.Line.TheVariants.{Space}
+use Rattle.zone_values.specs.{Values.{LineValue, line_value, space}, declared.line.Line.{Line}, declared.line.Line.TheVariants.{Space}}
 use Rattle.zone_plain_lines.specs.declared.cause.PlainCause.{PlainCause}
-use Rattle.zone_plain_base.specs.LineFaults.{Refusal, bad_line, too_long, at, onto, IsFaultOf}
-use Rattle.zone_plain_base.specs.Told.{fault_at, IsRefused}
-use Rattle.zone_plain_base.specs.declared.error.Refused.{Refused}
-use Rattle.zone_plain_base.specs.declared.error.Refused.TheVariants.{Cause, NoMemory}
-use Rattle.zone_plain.specs.Settled.{link_size, settled_line, settled_from, settled}
-use Rattle.zone_plain.specs.Stands.{names_of, IsDeclared, IsKept, IsAt}
-use Rattle.zone_plain.specs.declared.links.Declared.{Declared}
-use Rattle.zone_plain.specs.declared.links.Seen.{Seen}
+use Rattle.zone_plain_base.specs.{LineFaults.{Refusal, bad_line, too_long, at, onto, IsFaultOf}, Told.{fault_at, IsRefused}, declared.error.Refused.{Refused}, declared.error.Refused.TheVariants.{Cause, NoMemory}}
+use Rattle.zone_plain.specs.{Settled.{link_size, settled_line, settled_from, settled}, Stands.{names_of, IsDeclared, IsKept, IsAt}, declared.links.Declared.{Declared}, declared.links.Seen.{Seen}}
 
 pub first_at : (d : Declared) (s : Seen) (values : List LineValue) (limit : ℕ) → s.zones ≡ empty → s.targets ≡ empty → s.known ≡ empty
     → IsDeclared d values → limit ≡ length values → IsAt d s limit values []

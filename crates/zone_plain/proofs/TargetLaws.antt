@@ -1,6 +1,5 @@
 -- The targets of links with a line more.
-use Rattle.std.proofs.Common.{◌≡◌, ℕ, List, [], ◌∷◌, ◌++◌, Option, None, Some, refl, ap, ◌∙◌}
-use Rattle.std.specs.Option.{option_or}
+use Rattle.std.{proofs.Common.{◌≡◌, ℕ, List, [], ◌∷◌, ◌++◌, Option, None, Some, refl, ap, ◌∙◌}, specs.Option.{option_or}}
 use Rattle.zone_values.specs.Values.{LineValue}
 use Rattle.zone_plain.specs.Declares.{target_by, target_of}
 

@@ -1,12 +1,8 @@
 -- Worked rows: where names lead, and what becomes of lines.
-use Rattle.std.proofs.Common.{◌≡◌, List, [], ◌∷◌, None, Ok, Err, refl}
-use Rattle.std.specs.Prelude.{codes}
-use Rattle.zone_values.specs.Values.{InfoValue, RuleValue, LineValue, multiple, space, zone, continuation, rule, link}
-use Rattle.zone_values.specs.declared.time.TimeSpec.{TimeSpec}
+use Rattle.std.{proofs.Common.{◌≡◌, List, [], ◌∷◌, None, Ok, Err, refl}, specs.Prelude.{codes}}
+use Rattle.zone_values.specs.{Values.{InfoValue, RuleValue, LineValue, multiple, space, zone, continuation, rule, link}, declared.time.TimeSpec.{TimeSpec}}
 use Rattle.zone_plain_lines.specs.declared.cause.PlainCause.TheVariants as cause
-use Rattle.zone_plain.specs.Declares.{target_of}
-use Rattle.zone_plain.specs.Leads.{zone_behind}
-use Rattle.zone_plain.specs.Settled.{link_after, settled_link, settled_line}
+use Rattle.zone_plain.specs.{Declares.{target_of}, Leads.{zone_behind}, Settled.{link_after, settled_link, settled_line}}
 
 module _ (info : InfoValue) (offset : TimeSpec) where
   -- `L B C` and `L A B` before the zone A: two links to A

@@ -1,10 +1,6 @@
 -- Worked rows: the texts of totals, and names of rulesets that are made.
-use Rattle.std.proofs.Common.{◌≡◌, pos, neg_ℤ, true, false, refl}
-use Rattle.std.specs.Prelude.{codes, Some, None}
-use Rattle.std.specs.Fmt.{digits}
-use Rattle.zone_plain.specs.OffsetTexts.{offset_text, has_text}
-use Rattle.zone_plain.specs.MadeNames.{made_name}
-use Rattle.zone_plain.specs.Formats.{around, around_mark}
+use Rattle.std.{proofs.Common.{◌≡◌, pos, neg_ℤ, true, false, refl}, specs.Prelude.{codes, Some, None}, specs.Fmt.{digits}}
+use Rattle.zone_plain.specs.{OffsetTexts.{offset_text, has_text}, MadeNames.{made_name}, Formats.{around, around_mark}}
 
 zero : offset_text (pos 0) ≡ codes "+00"
 unfolding offset_text

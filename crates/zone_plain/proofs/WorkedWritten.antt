@@ -1,20 +1,10 @@
 -- Worked rows: what is written of values, and what is one line.
-use Rattle.std.proofs.Common.{◌≡◌, false, List, [], ◌∷◌, pos, neg_ℤ, None, Some, refl}
-use Rattle.std.specs.Prelude.{codes}
-use Rattle.std.specs.Fmt.{digits}
-use Rattle.std.proofs.lemmas.List.Elements.{All-from_recursion}
+use Rattle.std.{proofs.Common.{◌≡◌, false, List, [], ◌∷◌, pos, neg_ℤ, None, Some, refl}, specs.Prelude.{codes}, specs.Fmt.{digits}, proofs.lemmas.List.Elements.{All-from_recursion}}
 use Rattle.zone_source.specs.Lines.{is_line_feed}
-use Rattle.zone_values.specs.Seconds.{with_type}
-use Rattle.zone_values.specs.Values.{no_saving, multiple, LineValue, space, zone, continuation, rule, link}
-use Rattle.zone_values.specs.declared.change.ChangeTime.TheVariants.{UntilYear}
-use Rattle.zone_values.specs.declared.day.DaySpec.TheVariants.{Ordinal}
-use Rattle.zone_values.specs.declared.month.Month.TheVariants.{June}
-use Rattle.zone_values.specs.declared.time.TimeSpec.TheVariants.{Hours, HoursMinutes}
-use Rattle.zone_values.specs.declared.time.TimeType.TheVariants.{Standard}
-use Rattle.zone_values.specs.declared.year.Year.TheVariants.{Minimum, Number}
+use Rattle.zone_values.specs.{Seconds.{with_type}, Values.{no_saving, multiple, LineValue, space, zone, continuation, rule, link}, declared.change.ChangeTime.TheVariants.{UntilYear}, declared.day.DaySpec.TheVariants.{Ordinal}}
+use Rattle.zone_values.specs.declared.{month.Month.TheVariants.{June}, time.TimeSpec.TheVariants.{Hours, HoursMinutes}, time.TimeType.TheVariants.{Standard}, year.Year.TheVariants.{Minimum, Number}}
 use Rattle.zone_plain_base.specs.PlainTexts.{plain_text, rule_text, years_text, year_text, to_text, moment_text, day_text, time_text, clock_text, info_text, stretch_text, saving_text, end_text}
-use Rattle.zone_plain.specs.Written.{written}
-use Rattle.zone_plain.specs.WrittenLines.{IsOneLine}
+use Rattle.zone_plain.specs.{Written.{written}, WrittenLines.{IsOneLine}}
 
 -- two links, a zone of two lines, and a rule behind them
 abbrev values : List LineValue

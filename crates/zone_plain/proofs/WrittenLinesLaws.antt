@@ -1,18 +1,11 @@
 -- A source of what is written has the values that were written.
-use Rattle.std.proofs.Common.{◌≡◌, ℕ, ◌<◌, ◌+◌, List, [], ◌∷◌, ◌++◌, length, map, All, Bool, true, false, cond, filter, flat_map, refl, sym, ap, ◌∙◌, append_assoc, arith}
-use Rattle.std.specs.List.{slice_split}
-use Rattle.std.specs.Str.Lines.{strip_carriage_return}
-use Rattle.std.proofs.lemmas.List.Concat.{flat_map-append}
-use Rattle.std.proofs.lemmas.List.Elements.{All-nil, All-cons, All-head, All-tail, All-append, All-filter}
-use Rattle.std.proofs.lemmas.List.Splits.{slice_split_at, length-slice_split}
-use Rattle.zone_source.specs.LineLaws.{without_last_empty-more}
-use Rattle.zone_source.specs.Lines.{is_line_feed, without_last_empty, lines_of}
-use Rattle.zone_source.specs.Zones.{source_value}
+use Rattle.std.proofs.{Common.{◌≡◌, ℕ, ◌<◌, ◌+◌, List, [], ◌∷◌, ◌++◌, length, map, All, Bool, true, false, cond, filter, flat_map, refl, sym, ap, ◌∙◌, append_assoc, arith}, lemmas.List.Concat.{flat_map-append}}
+use Rattle.std.proofs.lemmas.List.{Elements.{All-nil, All-cons, All-head, All-tail, All-append, All-filter}, Splits.{slice_split_at, length-slice_split}}
+use Rattle.std.specs.{List.{slice_split}, Str.Lines.{strip_carriage_return}}
+use Rattle.zone_source.specs.{LineLaws.{without_last_empty-more}, Lines.{is_line_feed, without_last_empty, lines_of}, Zones.{source_value}}
 use Rattle.zone_values.specs.Values.{LineValue}
 use Rattle.zone_plain_base.specs.PlainTexts.{plain_text}
-use Rattle.zone_plain.specs.ReadBack.{IsReadAsMeant}
-use Rattle.zone_plain.specs.Written.{Part, Rules, Zones, Links, is_in, part_text, written}
-use Rattle.zone_plain.specs.WrittenLines.{IsLine, in_parts}
+use Rattle.zone_plain.specs.{ReadBack.{IsReadAsMeant}, Written.{Part, Rules, Zones, Links, is_in, part_text, written}, WrittenLines.{IsLine, in_parts}}
 
 -- a source says of a line that is read as meant what is meant
 pub says : (v : LineValue) → IsReadAsMeant v → source_value (plain_text v) ≡ v

@@ -1,34 +1,16 @@
 -- Under `%z` an abbreviation is FORMAT with the text of its own total.
 use Rattle.std.proofs.Common.{◌≡◌, ℕ, zero, suc, ◌+◌, ◌<◌, ◌^◌, ℤ, pos, Bool, true, false, cond, not, List, [], ◌∷◌, ◌++◌, length, map, reverse, take, get_or, nat_lt, All, Ok, Option, Some, None, option_map, subst, refl, sym, ap, ◌∙◌, append_assoc, arith}
-use Rattle.std.specs.Prelude.{◌==◌, ◌&&◌, ◌||◌, ◌+ℤ◌, ◌/◌, ◌%◌, codes, bytes_eq, int_lt, unsigned_abs, slice_index_or}
-use Rattle.std.specs.List.{list_any, position_or_len, before_first, after_first}
-use Rattle.std.specs.Option.{option_map_or, option_and_then}
-use Rattle.std.proofs.Math.Bool.{or-true}
-use Rattle.std.proofs.lemmas.Bool.{and_parts, not-true, or_parts}
-use Rattle.std.proofs.lemmas.Bool.Decides.{nat_tests}
-use Rattle.std.proofs.lemmas.Int.{ints}
-use Rattle.std.proofs.lemmas.List.{get_or_append_left, get_or-map, length-map}
-use Rattle.std.proofs.lemmas.List.Elements.{All-map}
-use Rattle.std.proofs.lemmas.List.Folds.{list_any-append}
-use Rattle.std.proofs.lemmas.List.Sums.{split_at_first, passes_at_first}
-use Rattle.zone_values.specs.Seconds.{seconds_of}
-use Rattle.zone_table.specs.Joined.{rules_of}
-use Rattle.zone_table.specs.declared.rule.RuleInfo.{RuleInfo}
-use Rattle.zone_values.specs.Values.{SavingValue, no_saving, one_off, multiple, InfoValue, LineValue, space, zone, continuation}
-use Rattle.zone_table.specs.Formats.{is_slash, is_placeholder, has_placeholder, format_of, filled, abbreviation}
-use Rattle.zone_table.specs.declared.zone.Format.TheVariants.{Constant, Alternate, Placeholder}
+use Rattle.std.proofs.{Math.Bool.{or-true}, lemmas.Bool.{and_parts, not-true, or_parts}, lemmas.Bool.Decides.{nat_tests}, lemmas.Int.{ints}, lemmas.List.{get_or_append_left, get_or-map, length-map}, lemmas.List.Elements.{All-map}}
+use Rattle.std.proofs.lemmas.List.{Folds.{list_any-append}, Sums.{split_at_first, passes_at_first}}
+use Rattle.std.specs.{Prelude.{◌==◌, ◌&&◌, ◌||◌, ◌+ℤ◌, ◌/◌, ◌%◌, codes, bytes_eq, int_lt, unsigned_abs, slice_index_or}, List.{list_any, position_or_len, before_first, after_first}, Option.{option_map_or, option_and_then}}
+use Rattle.zone_values.specs.{Seconds.{seconds_of}, Values.{SavingValue, no_saving, one_off, multiple, InfoValue, LineValue, space, zone, continuation}}
+use Rattle.zone_table.specs.{Joined.{rules_of}, declared.rule.RuleInfo.{RuleInfo}, Formats.{is_slash, is_placeholder, has_placeholder, format_of, filled, abbreviation}, declared.zone.Format.TheVariants.{Constant, Alternate, Placeholder}}
 use Rattle.zone_plain_base.specs.PlainTexts.{two_digits}
 use Rattle.zone_plain_lines.specs.Columns.{has_byte, is_letter, is_filled, is_format}
 use Rattle.basics.specs.Marks.{cut}
-use Rattle.zone_plain.specs.Abbreviations.{info_in, ruleset_in, own_saving, abbreviation_under, own_abbreviation, named_total, IsNamedUnder}
-use Rattle.zone_plain.specs.Formats.{Around, around, around_z, around_mark}
-use Rattle.zone_plain.specs.Made.{made_info, with_format, with_ruleset, changed_by, changed, name_in, made}
-use Rattle.zone_plain.specs.MadeLaws.{written_is}
-use Rattle.zone_plain.specs.PairLaws.{among_with, among_joined}
-use Rattle.zone_plain.specs.TableLaws.{made_ruleset}
-use Rattle.zone_plain.specs.WrittenOut.{written_out}
-use Rattle.zone_plain.specs.OffsetTexts.{seconds_text, minutes_text, sign, offset_text}
-use Rattle.zone_plain.specs.Pairs.{Pair, pair_of, nothing, total, under, asked_under, asked_by, asked, is_among, joined_by, pairs_from, pairs_of}
+use Rattle.zone_plain.specs.{Abbreviations.{info_in, ruleset_in, own_saving, abbreviation_under, own_abbreviation, named_total, IsNamedUnder}, Formats.{Around, around, around_z, around_mark}}
+use Rattle.zone_plain.specs.{Made.{made_info, with_format, with_ruleset, changed_by, changed, name_in, made}, MadeLaws.{written_is}, PairLaws.{among_with, among_joined}, TableLaws.{made_ruleset}, WrittenOut.{written_out}}
+use Rattle.zone_plain.specs.{OffsetTexts.{seconds_text, minutes_text, sign, offset_text}, Pairs.{Pair, pair_of, nothing, total, under, asked_under, asked_by, asked, is_among, joined_by, pairs_from, pairs_of}}
 
 -- letters in place of `%s`
 

@@ -1,14 +1,8 @@
 -- The abbreviations of lines, as a table of zones has them.
-use Rattle.std.specs.Prelude.{◌≡◌, ℕ, ℤ, pos, ◌+ℤ◌, ◌++◌, List, All, map, reverse, Option, Some, None, option_map}
-use Rattle.std.specs.Option.{option_and_then}
-use Rattle.zone_values.specs.Seconds.{seconds_of}
-use Rattle.zone_values.specs.Values.{SavingValue, no_saving, one_off, multiple, InfoValue, LineValue, zone, continuation}
-use Rattle.zone_table.specs.Formats.{abbreviation}
-use Rattle.zone_table.specs.Joined.{rules_of}
-use Rattle.zone_table.specs.Owned.{owned_info}
-use Rattle.zone_table.specs.declared.rule.RuleInfo.{RuleInfo}
-use Rattle.zone_plain.specs.Made.{made_info}
-use Rattle.zone_plain.specs.OffsetTexts.{offset_text}
+use Rattle.std.specs.{Prelude.{◌≡◌, ℕ, ℤ, pos, ◌+ℤ◌, ◌++◌, List, All, map, reverse, Option, Some, None, option_map}, Option.{option_and_then}}
+use Rattle.zone_values.specs.{Seconds.{seconds_of}, Values.{SavingValue, no_saving, one_off, multiple, InfoValue, LineValue, zone, continuation}}
+use Rattle.zone_table.specs.{Formats.{abbreviation}, Joined.{rules_of}, Owned.{owned_info}, declared.rule.RuleInfo.{RuleInfo}}
+use Rattle.zone_plain.specs.{Made.{made_info}, OffsetTexts.{offset_text}}
 
 -- what a line says of a stretch of time
 abbrev pub info_in : LineValue → Option InfoValue

@@ -1,13 +1,11 @@
 -- Why a run over a source has no answer, and the bytes that it is to write.
 use Rattle.std.specs.Prelude.{◌≡◌, ℕ, List, [], ◌∷◌, ◌++◌, Option, Some, None, Result, Ok, Err, codes}
 use Rattle.zone_source.specs.FaultLines.{line_with}
-use Rattle.zone_plain_lines.specs.Causes.{cause_name}
-use Rattle.zone_plain_lines.specs.declared.cause.PlainCause.{PlainCause}
+use Rattle.zone_plain_lines.specs.{Causes.{cause_name}, declared.cause.PlainCause.{PlainCause}}
 use Rattle.zone_plain_lines.specs.declared.cause.PlainCause.TheVariants as why
-use Rattle.zone_plain_base.specs.LineFaults.{Refusal, bad_line, too_long}
-use Rattle.zone_plain.specs.Plain.{plain_of}
-use Rattle.zone_plain_base.specs.declared.error.PlainFault.{PlainFault}
+use Rattle.zone_plain_base.specs.{LineFaults.{Refusal, bad_line, too_long}, declared.error.PlainFault.{PlainFault}}
 use Rattle.zone_plain_base.specs.declared.error.PlainFault.TheVariants as fault
+use Rattle.zone_plain.specs.Plain.{plain_of}
 
 -- what stands before the name of a cause
 abbrev pub group_of : PlainCause → List ℕ

@@ -1,8 +1,6 @@
 -- How a run ends.
 use Rattle.std.specs.Prelude.{ℕ, List, Option}
-use Rattle.zone_source.specs.OneFile.{file_work}
-use Rattle.zone_source.specs.Runs.{Seen, Work, EndsOf}
-use Rattle.zone_source.specs.declared.running.Status.{Status}
+use Rattle.zone_source.specs.{OneFile.{file_work}, Runs.{Seen, Work, EndsOf}, declared.running.Status.{Status}}
 use Rattle.zone_plain.specs.Causes.{cause, due_bytes}
 use Rattle.zone_plain_base.specs.LineFaults.{Refusal}
 

@@ -1,6 +1,5 @@
 -- Where `%z` stands in a format.
-use Rattle.std.specs.Prelude.{ℕ, List, Option, option_map}
-use Rattle.std.specs.Option.{option_and_then}
+use Rattle.std.specs.{Prelude.{ℕ, List, Option, option_map}, Option.{option_and_then}}
 use Rattle.basics.specs.Marks.{after_mark, cut}
 
 -- what stands before `%z` and what stands after it

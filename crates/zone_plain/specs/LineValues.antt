@@ -1,12 +1,10 @@
 -- The values of the lines of a source, each in its place.
 use Rattle.std.specs.Prelude.{ℕ, suc, List, [], ◌∷◌, Bool, false, is_some, Result, Ok, Err, if◌then◌else◌}
-use Rattle.zone_values.specs.Values.{LineValue, space, zone, continuation}
-use Rattle.zone_values.specs.Results.{◌>>=◌}
+use Rattle.zone_values.specs.{Values.{LineValue, space, zone, continuation}, Results.{◌>>=◌}}
 use Rattle.zone_plain_lines.specs.declared.cause.PlainCause.{PlainCause}
 use Rattle.zone_plain_lines.specs.declared.cause.PlainCause.TheVariants as cause
 use Rattle.zone_source.specs.Lines.{lines_of}
-use Rattle.zone_plain_base.specs.LineFaults.{LineFault, at, numbered, onto}
-use Rattle.zone_plain_base.specs.Said.{if_said}
+use Rattle.zone_plain_base.specs.{LineFaults.{LineFault, at, numbered, onto}, Said.{if_said}}
 pub use Rattle.zone_plain_base.specs.Meant.{meant_by}
 unfoldable pub use Rattle.zone_plain_base.specs.Meant.{line_meaning}
 use Rattle.zone_plain_base.specs.Renamed.{mark_of, renamed}

@@ -1,15 +1,9 @@
 -- The rulesets that are made for `%z`, and what becomes of the lines.
-use Rattle.std.specs.Prelude.{ℕ, ℤ, ◌+ℤ◌, Bool, true, ◌&&◌, List, [], ◌∷◌, ◌++◌, map, flat_map, codes, Some, bytes_eq, if◌then◌else◌}
-use Rattle.std.specs.List.{list_all}
-use Rattle.zone_values.specs.Seconds.{seconds_of}
-use Rattle.zone_values.specs.Values.{multiple, RuleValue, LineValue, space, zone, continuation, rule, link}
+use Rattle.std.specs.{Prelude.{ℕ, ℤ, ◌+ℤ◌, Bool, true, ◌&&◌, List, [], ◌∷◌, ◌++◌, map, flat_map, codes, Some, bytes_eq, if◌then◌else◌}, List.{list_all}}
+use Rattle.zone_values.specs.{Seconds.{seconds_of}, Values.{multiple, RuleValue, LineValue, space, zone, continuation, rule, link}}
 use Rattle.zone_table.specs.declared.rule.RuleInfo.{RuleInfo}
-use Rattle.zone_plain_base.specs.Said.{is_said}
-use Rattle.zone_plain.specs.Formats.{Around}
-use Rattle.zone_plain_base.specs.Renamed.{mark_of}
-use Rattle.zone_plain.specs.MadeNames.{made_name}
-use Rattle.zone_plain.specs.OffsetTexts.{offset_text, has_text}
-use Rattle.zone_plain.specs.Pairs.{Pair, Asked, nothing, total, under, asked, number_of, pairs_of}
+use Rattle.zone_plain_base.specs.{Said.{is_said}, Renamed.{mark_of}}
+use Rattle.zone_plain.specs.{Formats.{Around}, MadeNames.{made_name}, OffsetTexts.{offset_text, has_text}, Pairs.{Pair, Asked, nothing, total, under, asked, number_of, pairs_of}}
 
 -- the rules of that name, in order
 unfoldable pub rules_named : List LineValue → List ℕ → List RuleValue

@@ -1,18 +1,12 @@
 -- Under `%z` a ruleset that is made has the rules of its ruleset, with the texts of their totals as letters.
-use Rattle.std.proofs.Common.{◌≡◌, ℕ, suc, ◌+◌, ◌<◌, ◌^◌, Bool, true, false, cond, not, List, [], ◌∷◌, ◌++◌, length, map, Ok, Some, None, refl, sym, ap, ◌∙◌, append-nil, arith}
-use Rattle.std.specs.Prelude.{◌||◌, flat_map, bytes_eq}
-use Rattle.std.proofs.Math.Bool.{or-false}
-use Rattle.std.proofs.lemmas.Bool.{or_right}
-use Rattle.std.proofs.lemmas.Grind.{flat_map-append}
+use Rattle.std.proofs.{Common.{◌≡◌, ℕ, suc, ◌+◌, ◌<◌, ◌^◌, Bool, true, false, cond, not, List, [], ◌∷◌, ◌++◌, length, map, Ok, Some, None, refl, sym, ap, ◌∙◌, append-nil, arith}, Math.Bool.{or-false}, lemmas.Bool.{or_right}, lemmas.Grind.{flat_map-append}}
 use Rattle.std.proofs.lemmas.Slice.Eq.{bytes_eq-Decides}
+use Rattle.std.specs.Prelude.{◌||◌, flat_map, bytes_eq}
 use Rattle.zone_outside.specs.Limit.{text_limit}
 use Rattle.zone_values.specs.Values.{RuleValue, LineValue, zone, continuation, rule}
 use Rattle.zone_plain_base.specs.Renamed.{mark_of}
-use Rattle.zone_plain.specs.MadeNameLaws.{name_is_new, one_name}
-use Rattle.zone_plain.specs.PairLaws.{same_pair, pair_itself, among_more}
-use Rattle.zone_plain.specs.Pairs.{Pair, Asked, nothing, under, asked, asked_by, is_same, is_among, with_pair, joined_by, number_of, pairs_from, pairs_of}
-use Rattle.zone_plain.specs.Made.{rules_named, made_rule, rules_for, changed_by, changed, name_in, made}
-use Rattle.zone_plain.specs.WrittenOut.{refused_from, written_unless, written_out}
+use Rattle.zone_plain.specs.{MadeNameLaws.{name_is_new, one_name}, PairLaws.{same_pair, pair_itself, among_more}, Pairs.{Pair, Asked, nothing, under, asked, asked_by, is_same, is_among, with_pair, joined_by, number_of, pairs_from, pairs_of}}
+use Rattle.zone_plain.specs.{Made.{rules_named, made_rule, rules_for, changed_by, changed, name_in, made}, WrittenOut.{refused_from, written_unless, written_out}}
 
 rules_append : (xs ys : List LineValue) (name : List ℕ) → rules_named (xs ++ ys) name ≡ rules_named xs name ++ rules_named ys name
 unfolding rules_named

@@ -1,17 +1,10 @@
 -- The names of the rulesets that are made are no names of the source, and no two are one.
-use Rattle.std.proofs.Common.{◌≡◌, ℕ, ◌+◌, ◌<◌, ◌≤◌, ◌^◌, ◌%◌, Bool, true, false, cond, List, [], ◌∷◌, ◌++◌, map, get_or, drop, nat_lt, ◌-◌, refl, ap, arith}
-use Rattle.std.proofs.lemmas.Bool.{or_right}
-use Rattle.std.proofs.lemmas.Bool.Decides.{nat_tests}
-use Rattle.std.proofs.lemmas.List.{append_cancel_left}
-use Rattle.std.specs.Prelude.{◌||◌, decimal, bytes_eq}
-use Rattle.std.specs.Char.{digit_value}
-use Rattle.std.specs.Str.Parse.{AllDigits}
+use Rattle.std.proofs.{Common.{◌≡◌, ℕ, ◌+◌, ◌<◌, ◌≤◌, ◌^◌, ◌%◌, Bool, true, false, cond, List, [], ◌∷◌, ◌++◌, map, get_or, drop, nat_lt, ◌-◌, refl, ap, arith}, lemmas.Bool.{or_right}, lemmas.Bool.Decides.{nat_tests}, lemmas.List.{append_cancel_left}}
 use Rattle.std.proofs.lemmas.Fmt.{decimal_injective, decimal_is_IsNumeral}
+use Rattle.std.specs.{Prelude.{◌||◌, decimal, bytes_eq}, Char.{digit_value}, Str.Parse.{AllDigits}}
 use Rattle.zone_values.specs.Values.{LineValue, rule}
-use Rattle.zone_plain_base.specs.MarkLaws.{no_mark}
-use Rattle.zone_plain_base.specs.Renamed.{has_name, mark_of}
-use Rattle.zone_plain.specs.MadeNames.{letter, made_name}
-use Rattle.zone_plain.specs.Made.{rules_named}
+use Rattle.zone_plain_base.specs.{MarkLaws.{no_mark}, Renamed.{has_name, mark_of}}
+use Rattle.zone_plain.specs.{MadeNames.{letter, made_name}, Made.{rules_named}}
 
 -- no rule of the source has a name that isn't one of the source
 none_named : (values : List LineValue) (name : List ℕ) → (has_name values name ≡ true → ⊥) → rules_named values name ≡ []

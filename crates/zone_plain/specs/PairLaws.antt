@@ -1,12 +1,7 @@
 -- Pairs, each once: which are among them.
-use Rattle.std.proofs.Common.{◌≡◌, Bool, true, false, cond, List, [], ◌∷◌, ◌++◌, refl, ap, ◌∙◌}
-use Rattle.std.specs.Prelude.{◌&&◌, ◌||◌, bytes_eq}
-use Rattle.std.specs.Ordering.{int_eq}
-use Rattle.std.proofs.Math.Bool.{or-false, or-true}
-use Rattle.std.proofs.lemmas.Bool.{and_parts}
-use Rattle.std.proofs.lemmas.Bool.Decides.{Decides-int_eq}
-use Rattle.std.proofs.lemmas.List.Folds.{list_any-append}
+use Rattle.std.proofs.{Common.{◌≡◌, Bool, true, false, cond, List, [], ◌∷◌, ◌++◌, refl, ap, ◌∙◌}, Math.Bool.{or-false, or-true}, lemmas.Bool.{and_parts}, lemmas.Bool.Decides.{Decides-int_eq}, lemmas.List.Folds.{list_any-append}}
 use Rattle.std.proofs.lemmas.Slice.Eq.{bytes_eq-Decides}
+use Rattle.std.specs.{Prelude.{◌&&◌, ◌||◌, bytes_eq}, Ordering.{int_eq}}
 use Rattle.zone_plain.specs.Pairs.{Pair, Asked, under, is_same, is_among, with_pair, joined_by}
 
 -- two pairs that are the same are one

@@ -3,11 +3,7 @@ use Rattle.std.specs.Prelude.{ℕ, List, ◌++◌, Result, Ok, Err, length, nat_
 use Rattle.zone_outside.specs.Limit.{text_limit}
 use Rattle.zone_values.specs.Results.{◌>>=◌}
 use Rattle.zone_plain_base.specs.LineFaults.{Refusal, too_long, by_line}
-use Rattle.zone_plain.specs.Settled.{settled}
-use Rattle.zone_plain.specs.WrittenOut.{written_out}
-use Rattle.zone_plain.specs.Heads.{head_of}
-use Rattle.zone_plain.specs.LineValues.{values_in}
-use Rattle.zone_plain.specs.Written.{written}
+use Rattle.zone_plain.specs.{Settled.{settled}, WrittenOut.{written_out}, Heads.{head_of}, LineValues.{values_in}, Written.{written}}
 
 abbrev pub if_short : List ℕ → Result (List ℕ) Refusal
 if_short bytes = if nat_lt text_limit (length bytes) then Err too_long else Ok bytes

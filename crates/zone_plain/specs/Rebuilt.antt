@@ -1,11 +1,7 @@
 -- A source of what is written.
 use Rattle.std.specs.Prelude.{◌≡◌, ℕ, List, ◌++◌, Ok}
-use Rattle.zone_source.specs.Releases.{release_of}
-use Rattle.zone_source.specs.Zones.{values_of}
-use Rattle.zone_plain.specs.Heads.{head_values}
-use Rattle.zone_plain.specs.LineValues.{meant_in}
-use Rattle.zone_plain.specs.ReadBack.{IsReadBack}
-use Rattle.zone_plain.specs.WrittenLines.{JoinAlike, in_parts}
+use Rattle.zone_source.specs.{Releases.{release_of}, Zones.{values_of}}
+use Rattle.zone_plain.specs.{Heads.{head_values}, LineValues.{meant_in}, ReadBack.{IsReadBack}, WrittenLines.{JoinAlike, in_parts}}
 
 -- the lines of the bytes say what was written, by parts, behind the line of the release, and mean the same as a source in any form, and have the rulesets, the zones and the links of
 -- it; and the bytes name the release that the source names

@@ -1,15 +1,11 @@
 -- The lines of a source with each link led to its zone, or why they are refused.
 use Rattle.std.specs.Prelude.{ℕ, suc, ◌+◌, List, [], ◌∷◌, ◌++◌, Bool, false, not, Option, Some, None, Result, Ok, Err, length, nat_lt, bytes_eq, if◌then◌else◌}
 use Rattle.zone_outside.specs.Limit.{text_limit}
-use Rattle.zone_values.specs.Values.{SavingValue, multiple, LineValue, space, zone, continuation, link}
-use Rattle.zone_values.specs.Results.{◌>>=◌}
+use Rattle.zone_values.specs.{Values.{SavingValue, multiple, LineValue, space, zone, continuation, link}, Results.{◌>>=◌}}
 use Rattle.zone_plain_lines.specs.declared.cause.PlainCause.{PlainCause}
 use Rattle.zone_plain_lines.specs.declared.cause.PlainCause.TheVariants as cause
-use Rattle.zone_plain_base.specs.PlainTexts.{plain_text}
-use Rattle.zone_plain_base.specs.LineFaults.{Refusal, too_long, numbered, by_line, onto}
-use Rattle.zone_plain_base.specs.Said.{if_said}
-use Rattle.zone_plain.specs.Declares.{has_zone, has_ruleset, target_of}
-use Rattle.zone_plain.specs.Leads.{zone_behind}
+use Rattle.zone_plain_base.specs.{PlainTexts.{plain_text}, LineFaults.{Refusal, too_long, numbered, by_line, onto}, Said.{if_said}}
+use Rattle.zone_plain.specs.{Declares.{has_zone, has_ruleset, target_of}, Leads.{zone_behind}}
 
 -- RULES names a ruleset of which there is no rule
 abbrev pub lacks_rules : List LineValue → SavingValue → Bool

@@ -1,12 +1,8 @@
 -- What the code's values show.
 use Rattle.std.specs.Prelude.{ℕ, List}
-use Rattle.zone_plain.specs.Written.{Part, Rules, Zones, Links}
-use Rattle.zone_plain.specs.declared.parts.Parts.{Parts}
+use Rattle.zone_plain.specs.{Written.{Part, Rules, Zones, Links}, declared.parts.Parts.{Parts}, declared.asked.Around.{Around}, declared.asked.Pair.{Pair}, declared.asked.Asked.{Asked}}
 use Rattle.zone_plain.specs.Formats as of_format
 use Rattle.zone_plain.specs.Pairs as of_pair
-use Rattle.zone_plain.specs.declared.asked.Around.{Around}
-use Rattle.zone_plain.specs.declared.asked.Pair.{Pair}
-use Rattle.zone_plain.specs.declared.asked.Asked.{Asked}
 use Rattle.zone_plain.specs.declared.asked.Asked.TheVariants as code
 
 abbrev pub parts_shown : Around → of_format.Around

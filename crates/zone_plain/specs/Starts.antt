@@ -1,7 +1,5 @@
 -- How the program ends that was started.
-use Rattle.zone_source.specs.FileWords.{file_of}
-use Rattle.zone_source.specs.Starts.{Run, Starts, over_file}
-use Rattle.zone_source.specs.declared.starting.Started.{Started}
+use Rattle.zone_source.specs.{FileWords.{file_of}, Starts.{Run, Starts, over_file}, declared.starting.Started.{Started}}
 use Rattle.zone_plain.specs.Ends.{Ends}
 
 -- how its run ends, whose words name one file

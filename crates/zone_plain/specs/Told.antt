@@ -1,15 +1,9 @@
 -- What the code's answers tell.
 use Rattle.std.specs.Prelude.{◌≡◌, ℕ, List, [], ◌∷◌, ◌++◌, Bool, true, false, Result, Ok, Err}
-use Rattle.zone_values.specs.Values.{LineValue}
-use Rattle.zone_plain_base.specs.PlainTexts.{plain_text}
-use Rattle.zone_plain_base.specs.LineFaults.{LineFault, at}
-use Rattle.zone_plain_base.specs.Said.{is_said}
-use Rattle.zone_plain_base.specs.declared.error.PlainFault.{PlainFault}
+use Rattle.zone_values.specs.{Values.{LineValue}, Results.{◌>>=◌}}
+use Rattle.zone_plain_base.specs.{PlainTexts.{plain_text}, LineFaults.{LineFault, at}, Said.{is_said}, declared.error.PlainFault.{PlainFault}, Marks.{behind}, Renamed.{renamed, ruleset_of}}
 use Rattle.zone_plain_base.specs.declared.error.PlainFault.TheVariants as fault
-use Rattle.zone_values.specs.Results.{◌>>=◌}
 use Rattle.zone_plain_lines.specs.declared.cause.PlainCause.{PlainCause}
-use Rattle.zone_plain_base.specs.Marks.{behind}
-use Rattle.zone_plain_base.specs.Renamed.{renamed, ruleset_of}
 use Rattle.zone_plain.specs.LineValues.{line_meaning, is_open_after, named}
 
 -- what is added of a line of a source of that mark, if it can be said

@@ -1,6 +1,5 @@
 -- The lines of what is written.
-use Rattle.std.specs.Prelude.{◌≡◌, ℕ, List, ◌++◌, All, false, filter, reverse}
-use Rattle.std.specs.Str.Lines.{strip_carriage_return}
+use Rattle.std.specs.{Prelude.{◌≡◌, ℕ, List, ◌++◌, All, false, filter, reverse}, Str.Lines.{strip_carriage_return}}
 use Rattle.zone_values.specs.Values.{LineValue}
 use Rattle.zone_source.specs.Lines.{is_line_feed}
 use Rattle.zone_table.specs.Joined.{rules_of, zone_of, link_of}

@@ -4,9 +4,7 @@ use Rattle.zone_outside.specs.Limit.{text_limit}
 use Rattle.zone_values.specs.Values.{LineValue}
 use Rattle.zone_plain_lines.specs.declared.cause.PlainCause.TheVariants as cause
 use Rattle.zone_plain_base.specs.LineFaults.{Refusal, at, bad_line, too_long}
-use Rattle.zone_plain.specs.Pairs.{Pair, asked, joined_by}
-use Rattle.zone_plain.specs.Written.{line_text, written}
-use Rattle.zone_plain.specs.Made.{is_changed_said, name_in, changed, made_for, made}
+use Rattle.zone_plain.specs.{Pairs.{Pair, asked, joined_by}, Written.{line_text, written}, Made.{is_changed_said, name_in, changed, made_for, made}}
 
 -- how many bytes the rules take that are made for pairs
 abbrev pub made_size : List LineValue → List Pair → ℕ

@@ -1,17 +1,14 @@
 //! What `%z` asks of a line, the texts of totals that it is written out as, and pairs of a ruleset and an offset, each once.
 ghost use Rattle.std.specs.Prelude.{◌≡◌, option_map, string_bytes, IfOk, [], FitsSigned, OnOk, not};
-ghost use Rattle.zone_plain.specs.Formats.{around_mark};
-ghost use Rattle.zone_plain.specs.Made.{around_text, with_format, with_ruleset};
-ghost use Rattle.zone_plain.specs.Shown.{parts_shown, asked_shown, pair_shown};
+ghost use Rattle.zone_plain.specs.{Formats.{around_mark}, Made.{around_text, with_format, with_ruleset}, Shown.{parts_shown, asked_shown, pair_shown}, Pairs.{asked, asked_by, is_same, with_pair, number_of}};
 ghost use Rattle.zone_values.specs.Values.{line_value, info_value};
-ghost use Rattle.zone_plain.specs.Pairs.{asked, asked_by, is_same, with_pair, number_of};
 ghost use mir.Syntax.{w64};
 ghost use Rattle.std.specs.List.{list_any};
 
+use basics::{after_mark, cut};
 use indexmap::IndexSet;
 use std::alloc::{AllocError, Global};
 use std::marker::Model;
-use basics::{after_mark, cut};
 use zone_line::{Line, Saving, Zone, ZoneInfo};
 
 /// What stands before `%z` and what stands after it.
@@ -153,8 +150,8 @@ pub(crate) struct Pairs<'t> {
 
 impl<'t> Model for Pairs<'t> {
     ghost use Rattle.std.specs.Prelude.{List, map};
-    ghost use Rattle.zone_plain.specs.Pairs as of_pair;
     ghost use Rattle.zone_plain.specs.Shown.{pair_shown};
+    ghost use Rattle.zone_plain.specs.Pairs as of_pair;
 
     ghost Value = { List of_pair.Pair };
 

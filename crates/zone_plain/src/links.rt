@@ -1,16 +1,12 @@
 //! Links in any order and links to links, each led to its zone; and why a source as a whole is refused.
-ghost use Rattle.std.specs.Prelude.{◌≡◌, ℕ, List, [], ◌∷◌, ◌++◌, map as each, length, IfOk, OnOk, unwrap_or, Ok, None, Some, option_map, bytes_eq, slice_get, IfErr};
-ghost use Rattle.zone_values.specs.Values.{LineValue, line_value, saving_value};
-ghost use Rattle.zone_plain.specs.Stands.{IsDeclared, AddsTarget, IsKnown, IsBehind, LeadsTo, IsAt, IsLinkText, line_at_place, names_of};
-ghost use Rattle.std.specs.Option.{option_or};
-ghost use Rattle.zone_plain.specs.Declares.{has_zone, target_of};
-ghost use Rattle.zone_plain.specs.Settled.{lacks_rules, link_size, link_after, settled_line, settled_link, settled};
-ghost use Rattle.zone_plain_base.specs.Told.{IsRefused};
-ghost use Rattle.zone_plain_base.specs.LineFaults.{IsFaultOf};
-ghost use Rattle.zone_plain.specs.declared.links.Declared.{Declared};
+ghost use Rattle.std.specs.{Prelude.{◌≡◌, ℕ, List, [], ◌∷◌, ◌++◌, map as each, length, IfOk, OnOk, unwrap_or, Ok, None, Some, option_map, bytes_eq, slice_get, IfErr}, Option.{option_or}};
 ghost use Rattle.std.specs.FinMap as map;
+ghost use Rattle.zone_values.specs.Values.{LineValue, line_value, saving_value};
 ghost use Rattle.zone_values.specs.Values as value;
 ghost use Rattle.zone_values.specs.declared.line.Line.TheVariants as kind;
+ghost use Rattle.zone_plain.specs.{Stands.{IsDeclared, AddsTarget, IsKnown, IsBehind, LeadsTo, IsAt, IsLinkText, line_at_place, names_of}, Declares.{has_zone, target_of}, Settled.{lacks_rules, link_size, link_after, settled_line, settled_link, settled}};
+ghost use Rattle.zone_plain.specs.declared.links.Declared.{Declared};
+ghost use Rattle.zone_plain_base.specs.{Told.{IsRefused}, LineFaults.{IsFaultOf}};
 
 use basics::{Text, TextMap};
 use std::alloc::{AllocError, Global};

@@ -1,13 +1,8 @@
 //! The rulesets that are made, their names, and the text that stands for `%z`.
-ghost use Rattle.std.specs.Prelude.{◌≡◌, [], ◌∷◌, map, flat_map, IfOk, ◌<◌, ◌++◌, decimal, string_bytes, OnOk, ◌+◌, ◌+ℤ◌, true, Some, None, if◌then◌else◌};
-ghost use Rattle.std.specs.List.{list_all};
-ghost use Rattle.zone_values.specs.Values.{line_value, rule_value, rule};
-ghost use Rattle.zone_plain.specs.Made.{made_rule, is_rule_said, renamed};
-ghost use Rattle.zone_plain.specs.ToldOffsets.{IsAdded, AreAdded, value_in, made_lines, is_made_said};
-ghost use Rattle.zone_plain.specs.MadeNames.{letter, made_name};
-ghost use Rattle.zone_values.specs.Seconds.{seconds_of};
+ghost use Rattle.std.specs.{Prelude.{◌≡◌, [], ◌∷◌, map, flat_map, IfOk, ◌<◌, ◌++◌, decimal, string_bytes, OnOk, ◌+◌, ◌+ℤ◌, true, Some, None, if◌then◌else◌}, List.{list_all}};
+ghost use Rattle.zone_values.specs.{Values.{line_value, rule_value, rule}, Seconds.{seconds_of}};
+ghost use Rattle.zone_plain.specs.{Made.{made_rule, is_rule_said, renamed}, ToldOffsets.{IsAdded, AreAdded, value_in, made_lines, is_made_said}, MadeNames.{letter, made_name}, OffsetTexts.{seconds_text, minutes_text, offset_text, has_text}};
 ghost use Rattle.zone_plain_base.specs.PlainTexts.{two_digits};
-ghost use Rattle.zone_plain.specs.OffsetTexts.{seconds_text, minutes_text, offset_text, has_text};
 
 use crate::offsets::line_in;
 use crate::parts::put_text;

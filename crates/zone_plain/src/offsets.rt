@@ -1,16 +1,9 @@
 //! The lines of a source with `%z` written out.
-ghost use Rattle.std.specs.Prelude.{◌≡◌, [], map, unwrap_or, IfOk, OnOk, ◌∷◌, ◌&&◌, codes, string_bytes, IfErr};
-ghost use Rattle.std.specs.FinMap.{get};
+ghost use Rattle.std.specs.{Prelude.{◌≡◌, [], map, unwrap_or, IfOk, OnOk, ◌∷◌, ◌&&◌, codes, string_bytes, IfErr}, FinMap.{get}};
 ghost use Rattle.zone_values.specs.Values.{line_value};
-ghost use Rattle.zone_plain.specs.ToldOffsets.{IsGrouped, value_in, with_place, IsAdded, AreAdded, IsWrittenOut, new_rules, are_new_said};
-ghost use Rattle.zone_plain.specs.WrittenOut.{IsWrittenAs, written_out};
-ghost use Rattle.zone_plain_base.specs.LineFaults.{IsFaultOf};
-ghost use Rattle.zone_plain_base.specs.Said.{is_said};
-ghost use Rattle.zone_plain.specs.Made.{with_format, with_ruleset, around_text, named_in, rules_for, are_rules_said};
-ghost use Rattle.zone_plain.specs.Pairs.{with_pair};
-ghost use Rattle.zone_plain_base.specs.Renamed.{mark_of};
-ghost use Rattle.zone_plain.specs.OffsetTexts.{offset_text, has_text};
-ghost use Rattle.zone_plain.specs.Shown.{parts_shown, pair_shown, text_in};
+ghost use Rattle.zone_plain.specs.{ToldOffsets.{IsGrouped, value_in, with_place, IsAdded, AreAdded, IsWrittenOut, new_rules, are_new_said}, WrittenOut.{IsWrittenAs, written_out}};
+ghost use Rattle.zone_plain.specs.{Made.{with_format, with_ruleset, around_text, named_in, rules_for, are_rules_said}, Pairs.{with_pair}, OffsetTexts.{offset_text, has_text}, Shown.{parts_shown, pair_shown, text_in}};
+ghost use Rattle.zone_plain_base.specs.{LineFaults.{IsFaultOf}, Said.{is_said}, Renamed.{mark_of}};
 
 use crate::asked::{
     Around, Asked, Pair, Pairs, around_text, asked_of, offset_of, with_format, with_ruleset,

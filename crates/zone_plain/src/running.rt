@@ -1,9 +1,7 @@
 //! The program, its run, and the whole of it.
 ghost use Rattle.std.specs.Option.{ForSome};
-ghost use Rattle.zone_source.specs.FileWords.{file_of};
-ghost use Rattle.zone_source.specs.Runs.{seen};
-ghost use Rattle.zone_plain.specs.Ends.{Ends};
-ghost use Rattle.zone_plain.specs.Starts.{StartsPlain};
+ghost use Rattle.zone_source.specs.{FileWords.{file_of}, Runs.{seen}};
+ghost use Rattle.zone_plain.specs.{Ends.{Ends}, Starts.{StartsPlain}};
 
 use crate::respond::respond;
 use std::alloc::{AllocError, Global};

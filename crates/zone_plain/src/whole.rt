@@ -1,17 +1,9 @@
 //! The plain form of a source: the line of its release; its mark; its lines, read, led through the stages and written out.
 ghost use Rattle.std.specs.Prelude.{◌≡◌, IfOk, IfErr, ◌≤◌, Ok, map, length, Some, ◌++◌, codes, false, string_bytes, OnOk};
 ghost use Rattle.zone_values.specs.Values.{line_value, space};
-ghost use Rattle.zone_plain.specs.LineValues.{is_open_after, mark_in, values_in, known, meant_in};
-ghost use Rattle.zone_plain.specs.Told.{IsAddedLine, IsReadLine, added_line, IsLineFault};
-ghost use Rattle.zone_plain_base.specs.Told.{IsRefused};
+ghost use Rattle.zone_plain.specs.{LineValues.{is_open_after, mark_in, values_in, known, meant_in}, Told.{IsAddedLine, IsReadLine, added_line, IsLineFault}, Plain.{plain_of}, Rebuilt.{IsRebuilt}, Heads.{is_silent, head_with, head_of}};
+ghost use Rattle.zone_plain_base.specs.{Told.{IsRefused}, LineFaults.{IsFaultOf}, Marks.{behind, tails}, Renamed.{renamed, ruleset_of}, Said.{is_said}};
 ghost use Rattle.zone_source.specs.Zones.{source_value};
-ghost use Rattle.zone_plain_base.specs.LineFaults.{IsFaultOf};
-ghost use Rattle.zone_plain.specs.Plain.{plain_of};
-ghost use Rattle.zone_plain.specs.Rebuilt.{IsRebuilt};
-ghost use Rattle.zone_plain.specs.Heads.{is_silent, head_with, head_of};
-ghost use Rattle.zone_plain_base.specs.Marks.{behind, tails};
-ghost use Rattle.zone_plain_base.specs.Renamed.{renamed, ruleset_of};
-ghost use Rattle.zone_plain_base.specs.Said.{is_said};
 
 use crate::links::settle;
 use crate::offsets::write_out;

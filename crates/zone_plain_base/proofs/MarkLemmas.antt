@@ -1,12 +1,7 @@
 -- The letters of a mark so far, and the names that are left.
-use Rattle.std.proofs.Common.{◌≡◌, ℕ, ◌<◌, List, [], ◌∷◌, ◌++◌, length, map, true, false, refl, sym, ap, ◌∙◌, append_assoc, append-nil, arith}
-use Rattle.std.proofs.lemmas.Bool.{both_ways}
-use Rattle.std.proofs.lemmas.Bool.Decides.{nat_tests}
-use Rattle.std.specs.Prelude.{◌==◌}
+use Rattle.std.{proofs.Common.{◌≡◌, ℕ, ◌<◌, List, [], ◌∷◌, ◌++◌, length, map, true, false, refl, sym, ap, ◌∙◌, append_assoc, append-nil, arith}, proofs.lemmas.Bool.{both_ways}, proofs.lemmas.Bool.Decides.{nat_tests}, specs.Prelude.{◌==◌}}
 use Rattle.zone_values.specs.Values.{LineValue}
-use Rattle.zone_plain_base.specs.Marks.{tails, rarer, ending_within, ending, mark_behind}
-use Rattle.zone_plain_base.specs.MarkLaws.{half, next_letter}
-use Rattle.zone_plain_base.specs.Renamed.{ruleset_of, mark_of}
+use Rattle.zone_plain_base.specs.{Marks.{tails, rarer, ending_within, ending, mark_behind}, MarkLaws.{half, next_letter}, Renamed.{ruleset_of, mark_of}}
 
 -- a letter leaves fewer names
 pub smaller : (names fewer : List (List ℕ)) (letter : ℕ) → (length names == 0) ≡ false → letter ≡ rarer names → fewer ≡ tails letter names

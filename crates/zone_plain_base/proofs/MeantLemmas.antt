@@ -1,15 +1,9 @@
 -- What a line means, step by step.
-use Rattle.std.proofs.Common.{◌≡◌, ℕ, List, Bool, true, false, Result, Err, refl, sym, ap, subst}
-use Rattle.std.specs.Str.{is_utf8}
-use Rattle.zone_values.specs.Values.{line_value}
-use Rattle.zone_values.specs.declared.line.Line.{Line}
-use Rattle.zone_plain_lines.specs.Meanings.{meaning}
-use Rattle.zone_plain_lines.specs.Quotes.{fields, laid_out, kept, pieces, has_bad_quotes}
+use Rattle.std.{proofs.Common.{◌≡◌, ℕ, List, Bool, true, false, Result, Err, refl, sym, ap, subst}, specs.Str.{is_utf8}}
+use Rattle.zone_values.specs.{Values.{line_value}, declared.line.Line.{Line}}
+use Rattle.zone_plain_lines.specs.{Meanings.{meaning}, Quotes.{fields, laid_out, kept, pieces, has_bad_quotes}, declared.quotes.Place.TheVariants.{Outside}}
 use Rattle.zone_plain_lines.specs.declared.cause.PlainCause.TheVariants as cause
-use Rattle.zone_plain_lines.specs.declared.quotes.Place.TheVariants.{Outside}
-use Rattle.zone_plain_base.specs.Meant.{line_meaning}
-use Rattle.zone_plain_base.specs.Told.{IsToldBy}
-use Rattle.zone_plain_base.specs.declared.error.Refused.{Refused}
+use Rattle.zone_plain_base.specs.{Meant.{line_meaning}, Told.{IsToldBy}, declared.error.Refused.{Refused}}
 
 -- a line that is text, with its quotes in order
 pub record IsGood (line : List ℕ) : Type 0 where

@@ -1,10 +1,7 @@
 -- The values of the lines that were read.
-use Rattle.std.proofs.Common.{◌≡◌, ◌==◌, ℕ, ◌+◌, ◌<◌, List, [], ◌∷◌, ◌++◌, map, length, take, get_or, true, refl, sym, ap, ◌∙◌, arith}
-use Rattle.std.proofs.lemmas.Bool.{eqb-true}
-use Rattle.std.proofs.lemmas.List.{get_or-map, length-map, map-append, take_more}
-use Rattle.zone_values.specs.declared.line.Line.{Line}
+use Rattle.std.proofs.{Common.{◌≡◌, ◌==◌, ℕ, ◌+◌, ◌<◌, List, [], ◌∷◌, ◌++◌, map, length, take, get_or, true, refl, sym, ap, ◌∙◌, arith}, lemmas.Bool.{eqb-true}, lemmas.List.{get_or-map, length-map, map-append, take_more}}
+use Rattle.zone_values.specs.{declared.line.Line.{Line}, Values.{line_value}}
 use Rattle.zone_source.specs.Zones.{source_value}
-use Rattle.zone_values.specs.Values.{line_value}
 
 -- the first lines were read, and one more
 pub one_read : (lines : List (List ℕ)) (items : List Line) (line : Line) (i : ℕ) → i < length lines

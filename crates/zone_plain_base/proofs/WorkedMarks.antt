@@ -1,6 +1,5 @@
 -- Worked rows: the marks of names.
-use Rattle.std.proofs.Common.{◌≡◌, ℕ, zero, suc, List, [], ◌∷◌, ◌++◌, map, refl}
-use Rattle.std.specs.Prelude.{codes, replicate}
+use Rattle.std.{proofs.Common.{◌≡◌, ℕ, zero, suc, List, [], ◌∷◌, ◌++◌, map, refl}, specs.Prelude.{codes, replicate}}
 use Rattle.zone_plain_base.specs.Marks.{ending_within, mark}
 
 -- of no names; of names that don't begin with `_`; and of one that does

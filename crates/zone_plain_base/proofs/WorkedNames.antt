@@ -1,16 +1,8 @@
 -- Worked rows: names in the plain form, and lines with them.
-use Rattle.std.proofs.Common.{◌≡◌, ℕ, List, [], ◌∷◌, map, pos, Some, None, true, false, refl}
-use Rattle.std.specs.Prelude.{codes}
-use Rattle.zone_values.specs.Seconds.{with_type}
-use Rattle.zone_values.specs.Values.{no_saving, one_off, multiple, InfoValue, LineValue, space, zone, continuation, rule, link}
-use Rattle.zone_values.specs.declared.day.DaySpec.TheVariants.{Ordinal}
-use Rattle.zone_values.specs.declared.month.Month.TheVariants.{June}
-use Rattle.zone_values.specs.declared.time.TimeSpec.TheVariants.{Hours}
-use Rattle.zone_values.specs.declared.time.TimeType.TheVariants.{Wall}
-use Rattle.zone_values.specs.declared.year.Year.TheVariants.{Minimum}
-use Rattle.zone_plain_base.specs.Names.{said_name}
-use Rattle.zone_plain_base.specs.Marks.{ending_within}
-use Rattle.zone_plain_base.specs.Renamed.{has_name, mark_of, renamed}
+use Rattle.std.{proofs.Common.{◌≡◌, ℕ, List, [], ◌∷◌, map, pos, Some, None, true, false, refl}, specs.Prelude.{codes}}
+use Rattle.zone_values.specs.{Seconds.{with_type}, Values.{no_saving, one_off, multiple, InfoValue, LineValue, space, zone, continuation, rule, link}, declared.day.DaySpec.TheVariants.{Ordinal}, declared.month.Month.TheVariants.{June}}
+use Rattle.zone_values.specs.declared.{time.TimeSpec.TheVariants.{Hours}, time.TimeType.TheVariants.{Wall}, year.Year.TheVariants.{Minimum}}
+use Rattle.zone_plain_base.specs.{Names.{said_name}, Marks.{ending_within}, Renamed.{has_name, mark_of, renamed}}
 
 -- a digit, a space, a slash; the first byte and the last of a letter's four bits
 other_bytes : map (said_name (codes "_")) (codes "b2" ∷ codes "a b" ∷ codes "A/Z" ∷ (15 ∷ 240 ∷ []) ∷ [])

@@ -1,6 +1,5 @@
 -- Worked rows: texts that are one line of a source as they stand.
-use Rattle.std.proofs.Common.{◌≡◌, ℕ, List, [], ◌∷◌, ◌++◌, true, false, map, refl}
-use Rattle.std.specs.Prelude.{codes}
+use Rattle.std.{proofs.Common.{◌≡◌, ℕ, List, [], ◌∷◌, ◌++◌, true, false, map, refl}, specs.Prelude.{codes}}
 use Rattle.zone_source.specs.Lines.{lines_of}
 use Rattle.zone_plain_base.specs.Said.{is_one_line}
 

@@ -1,15 +1,8 @@
 -- Plain texts at worked rows.
-use Rattle.std.proofs.Common.{◌≡◌, [], ◌∷◌, map, Some, None, refl, pos, negsuc}
-use Rattle.std.specs.Prelude.{codes}
-use Rattle.std.specs.Fmt.{digits}
-use Rattle.zone_values.specs.Seconds.{with_type}
-use Rattle.zone_values.specs.Values.{no_saving, one_off, multiple, InfoValue, space, zone, continuation, rule, link}
-use Rattle.zone_values.specs.declared.change.ChangeTime.TheVariants.{UntilYear, UntilMonth, UntilDay, UntilTime}
-use Rattle.zone_values.specs.declared.day.DaySpec.TheVariants.{Ordinal, Last, LastOnOrBefore, FirstOnOrAfter}
-use Rattle.zone_values.specs.declared.month.Month.TheVariants.{January, February, March, April, May, June, July, August, September, October, November, December}
-use Rattle.zone_values.specs.declared.time.TimeSpec.TheVariants.{Hours, HoursMinutes, HoursMinutesSeconds, Zero}
-use Rattle.zone_values.specs.declared.time.TimeType.TheVariants.{Standard, UTC}
-use Rattle.zone_values.specs.declared.weekday.Weekday.TheVariants.{Sunday, Monday, Tuesday, Wednesday, Thursday, Friday, Saturday}
+use Rattle.std.{proofs.Common.{◌≡◌, [], ◌∷◌, map, Some, None, refl, pos, negsuc}, specs.Prelude.{codes}, specs.Fmt.{digits}}
+use Rattle.zone_values.specs.{Seconds.{with_type}, Values.{no_saving, one_off, multiple, InfoValue, space, zone, continuation, rule, link}, declared.change.ChangeTime.TheVariants.{UntilYear, UntilMonth, UntilDay, UntilTime}}
+use Rattle.zone_values.specs.declared.{day.DaySpec.TheVariants.{Ordinal, Last, LastOnOrBefore, FirstOnOrAfter}, month.Month.TheVariants.{January, February, March, April, May, June, July, August, September, October, November, December}}
+use Rattle.zone_values.specs.declared.{time.TimeSpec.TheVariants.{Hours, HoursMinutes, HoursMinutesSeconds, Zero}, time.TimeType.TheVariants.{Standard, UTC}, weekday.Weekday.TheVariants.{Sunday, Monday, Tuesday, Wednesday, Thursday, Friday, Saturday}}
 use Rattle.zone_values.specs.declared.year.Year.TheVariants.{Minimum, Maximum, Number}
 use Rattle.zone_plain_base.specs.PlainTexts.{clock_text, time_text, month_text, weekday_text, day_text, year_text, to_text, saving_text, years_text, moment_text, rule_text, end_text, stretch_text, info_text, plain_text}
 

@@ -1,14 +1,9 @@
 -- No name of a source begins with its mark, and the mark is short.
-use Rattle.std.proofs.Common.{◌≡◌, ℕ, zero, suc, ◌+◌, ◌*◌, ◌^◌, ◌≤◌, Bool, true, false, cond, List, [], ◌∷◌, ◌++◌, length, map, nat_lt, refl, sym, ap, ◌∙◌, arith}
-use Rattle.std.proofs.Math.Nat.{pow-succ'}
-use Rattle.std.proofs.lemmas.Bool.{and_parts, or_right, both_ways, ltb-true, ltb-false}
-use Rattle.std.proofs.lemmas.Bool.Decides.{nat_tests}
-use Rattle.std.proofs.lemmas.List.{length-map}
-use Rattle.std.specs.Prelude.{◌==◌, ◌||◌, bytes_eq, max}
-use Rattle.std.specs.List.{list_any}
+use Rattle.std.proofs.{Common.{◌≡◌, ℕ, zero, suc, ◌+◌, ◌*◌, ◌^◌, ◌≤◌, Bool, true, false, cond, List, [], ◌∷◌, ◌++◌, length, map, nat_lt, refl, sym, ap, ◌∙◌, arith}, Math.Nat.{pow-succ'}, lemmas.Bool.{and_parts, or_right, both_ways, ltb-true, ltb-false}}
+use Rattle.std.proofs.lemmas.{Bool.Decides.{nat_tests}, List.{length-map}}
+use Rattle.std.specs.{Prelude.{◌==◌, ◌||◌, bytes_eq, max}, List.{list_any}}
 use Rattle.zone_values.specs.Values.{LineValue}
-use Rattle.zone_plain_base.specs.Marks.{tails, rarer, ending_within, ending, mark}
-use Rattle.zone_plain_base.specs.Renamed.{ruleset_of, has_name, mark_of}
+use Rattle.zone_plain_base.specs.{Marks.{tails, rarer, ending_within, ending, mark}, Renamed.{ruleset_of, has_name, mark_of}}
 
 -- the name is one of these
 abbrev is_among : List (List ℕ) → List ℕ → Bool

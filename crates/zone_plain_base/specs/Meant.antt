@@ -1,11 +1,7 @@
 -- What a line of a source in any form means, in its place.
-use Rattle.std.specs.Prelude.{ℕ, List, Bool, true, false, Result, Err, if◌then◌else◌}
-use Rattle.std.specs.Str.{is_utf8}
-use Rattle.zone_values.specs.Results.{◌>>=◌}
-use Rattle.zone_values.specs.Values.{LineValue, continuation}
-use Rattle.zone_plain_lines.specs.Meanings.{meaning}
-use Rattle.zone_plain_lines.specs.Quotes.{fields, laid_out}
-use Rattle.zone_plain_lines.specs.declared.cause.PlainCause.{PlainCause}
+use Rattle.std.specs.{Prelude.{ℕ, List, Bool, true, false, Result, Err, if◌then◌else◌}, Str.{is_utf8}}
+use Rattle.zone_values.specs.{Results.{◌>>=◌}, Values.{LineValue, continuation}}
+use Rattle.zone_plain_lines.specs.{Meanings.{meaning}, Quotes.{fields, laid_out}, declared.cause.PlainCause.{PlainCause}}
 use Rattle.zone_plain_lines.specs.declared.cause.PlainCause.TheVariants as cause
 
 -- the same of a line whose fields stand in its text; the text of a line without its comment and its quotes is text too

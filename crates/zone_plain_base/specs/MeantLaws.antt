@@ -1,15 +1,9 @@
 -- What a line can mean where it stands.
-use Rattle.std.proofs.Common.{◌≡◌, ℕ, List, Bool, true, false, not, cond, Result, Ok, Err, IfOk, refl}
-use Rattle.std.specs.Prelude.{◌==◌, ◌||◌, ◌+◌, ◌-◌, length, nat_lt}
-use Rattle.std.specs.Str.{is_utf8}
-use Rattle.zone_values.specs.Results.{◌>>=◌}
-use Rattle.zone_values.specs.Values.{SavingValue, InfoValue, RuleValue, LineValue, space, zone, continuation, rule, link}
-use Rattle.zone_plain_lines.specs.Columns.{column, zone_name, saving_of, is_format}
-use Rattle.zone_plain_lines.specs.Meanings.{offset_of, if_format, end_of, is_ruled, rule_of, info_of, link_of, by_word, first_line_of, meaning}
-use Rattle.zone_plain_lines.specs.Quotes.{fields, laid_out}
-use Rattle.zone_plain_lines.specs.Words.{line_word}
-use Rattle.zone_plain_lines.specs.declared.cause.PlainCause.TheVariants as cause
+use Rattle.std.{proofs.Common.{◌≡◌, ℕ, List, Bool, true, false, not, cond, Result, Ok, Err, IfOk, refl}, specs.Prelude.{◌==◌, ◌||◌, ◌+◌, ◌-◌, length, nat_lt}, specs.Str.{is_utf8}}
+use Rattle.zone_values.specs.{Results.{◌>>=◌}, Values.{SavingValue, InfoValue, RuleValue, LineValue, space, zone, continuation, rule, link}}
+use Rattle.zone_plain_lines.specs.{Columns.{column, zone_name, saving_of, is_format}, Meanings.{offset_of, if_format, end_of, is_ruled, rule_of, info_of, link_of, by_word, first_line_of, meaning}, Quotes.{fields, laid_out}, Words.{line_word}}
 use Rattle.zone_plain_lines.specs.declared.words.LineWord.{LineWord}
+use Rattle.zone_plain_lines.specs.declared.cause.PlainCause.TheVariants as cause
 use Rattle.zone_plain_lines.specs.declared.words.LineWord.TheVariants as word
 use Rattle.zone_plain_base.specs.Meant.{meant_by, line_meaning}
 

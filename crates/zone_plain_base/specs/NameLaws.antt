@@ -1,18 +1,11 @@
 -- The names of rulesets in the plain form: those of a source stay where RULES can say them, no two become one, and RULES can say all.
-use Rattle.std.proofs.Common.{◌≡◌, ℕ, zero, suc, ◌+◌, ◌/◌, ◌%◌, ◌<◌, Bool, true, false, cond, List, [], ◌∷◌, ◌++◌, length, map, nat_lt, get_or, drop, Ok, All, refl, sym, ap, ◌∙◌, arith}
-use Rattle.std.proofs.Math.Bool.{or_assoc}
-use Rattle.std.proofs.lemmas.Bool.{and_parts, and_from, or_right, both_ways}
-use Rattle.std.proofs.lemmas.Bool.Decides.{nat_tests}
-use Rattle.std.proofs.lemmas.List.{append_cancel_left}
-use Rattle.std.specs.Prelude.{◌||◌, flat_map, nat_eq}
-use Rattle.std.specs.Char.{is_ascii_alphabetic}
+use Rattle.std.proofs.{Common.{◌≡◌, ℕ, zero, suc, ◌+◌, ◌/◌, ◌%◌, ◌<◌, Bool, true, false, cond, List, [], ◌∷◌, ◌++◌, length, map, nat_lt, get_or, drop, Ok, All, refl, sym, ap, ◌∙◌, arith}, Math.Bool.{or_assoc}}
+use Rattle.std.proofs.lemmas.{Bool.{and_parts, and_from, or_right, both_ways}, Bool.Decides.{nat_tests}, List.{append_cancel_left}}
+use Rattle.std.specs.{Prelude.{◌||◌, flat_map, nat_eq}, Char.{is_ascii_alphabetic}}
 use Rattle.zone_line.specs.Fields.{is_ruleset_name}
 use Rattle.zone_plain_lines.specs.Columns.{ruleset_name}
 use Rattle.zone_values.specs.Values.{LineValue}
-use Rattle.zone_plain_base.specs.Marks.{tails, rarer, ending_within}
-use Rattle.zone_plain_base.specs.MarkLaws.{no_mark}
-use Rattle.zone_plain_base.specs.Names.{is_letter, letter, byte_text, said_name}
-use Rattle.zone_plain_base.specs.Renamed.{ruleset_of, has_name, mark_of}
+use Rattle.zone_plain_base.specs.{Marks.{tails, rarer, ending_within}, MarkLaws.{no_mark}, Names.{is_letter, letter, byte_text, said_name}, Renamed.{ruleset_of, has_name, mark_of}}
 
 -- what stands for a byte, by whether it is a letter
 abbrev text_by : Bool → ℕ → List ℕ

@@ -1,6 +1,5 @@
 -- The names of rulesets in the plain form, whose RULES column says letters, hyphens and underscores alone.
-use Rattle.std.specs.Prelude.{ℕ, ◌+◌, ◌/◌, ◌%◌, ◌==◌, Bool, ◌||◌, List, [], ◌∷◌, ◌++◌, flat_map, if◌then◌else◌}
-use Rattle.std.specs.Char.{is_ascii_alphabetic}
+use Rattle.std.specs.{Prelude.{ℕ, ◌+◌, ◌/◌, ◌%◌, ◌==◌, Bool, ◌||◌, List, [], ◌∷◌, ◌++◌, flat_map, if◌then◌else◌}, Char.{is_ascii_alphabetic}}
 use Rattle.zone_line.specs.Fields.{is_ruleset_name}
 
 -- an ASCII letter or `_`

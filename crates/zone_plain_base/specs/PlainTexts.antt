@@ -1,22 +1,11 @@
 -- The plain text of what a line means.
-use Rattle.std.specs.Prelude.{ℕ, ◌+◌, ◌/◌, ◌%◌, ℤ, pos, ◌||◌, List, [], ◌∷◌, ◌++◌, Option, Some, None, int_lt, unsigned_abs, codes, decimal, if◌then◌else◌}
-use Rattle.std.specs.Fmt.{signed_decimal}
-use Rattle.zone_values.specs.Values.{SavingValue, no_saving, one_off, multiple, InfoValue, RuleValue, LineValue, space, zone, continuation, rule, link}
-use Rattle.zone_values.specs.declared.change.ChangeTime.{ChangeTime}
-use Rattle.zone_values.specs.declared.change.ChangeTime.TheVariants.{UntilYear, UntilMonth, UntilDay, UntilTime}
-use Rattle.zone_values.specs.declared.day.DaySpec.{DaySpec}
-use Rattle.zone_values.specs.declared.day.DaySpec.TheVariants.{Ordinal, Last, LastOnOrBefore, FirstOnOrAfter}
-use Rattle.zone_values.specs.declared.month.Month.{Month}
+use Rattle.std.specs.{Prelude.{ℕ, ◌+◌, ◌/◌, ◌%◌, ℤ, pos, ◌||◌, List, [], ◌∷◌, ◌++◌, Option, Some, None, int_lt, unsigned_abs, codes, decimal, if◌then◌else◌}, Fmt.{signed_decimal}}
+use Rattle.zone_values.specs.{Values.{SavingValue, no_saving, one_off, multiple, InfoValue, RuleValue, LineValue, space, zone, continuation, rule, link}, declared.change.ChangeTime.{ChangeTime}}
+use Rattle.zone_values.specs.declared.{change.ChangeTime.TheVariants.{UntilYear, UntilMonth, UntilDay, UntilTime}, day.DaySpec.{DaySpec}, day.DaySpec.TheVariants.{Ordinal, Last, LastOnOrBefore, FirstOnOrAfter}, month.Month.{Month}, time.TimeSpec.{TimeSpec}}
+use Rattle.zone_values.specs.declared.{time.TimeSpec.TheVariants.{Hours, HoursMinutes, HoursMinutesSeconds, Zero}, time.TimeType.{TimeType}, time.TimeType.TheVariants.{Wall, Standard, UTC}, time.TimeSpecAndType.{TimeSpecAndType}, weekday.Weekday.{Weekday}}
+use Rattle.zone_values.specs.declared.year.Year.{Year, TheVariants.{Minimum, Maximum, Number}}
 use Rattle.zone_values.specs.declared.month.Month.TheVariants as month
-use Rattle.zone_values.specs.declared.time.TimeSpec.{TimeSpec}
-use Rattle.zone_values.specs.declared.time.TimeSpec.TheVariants.{Hours, HoursMinutes, HoursMinutesSeconds, Zero}
-use Rattle.zone_values.specs.declared.time.TimeType.{TimeType}
-use Rattle.zone_values.specs.declared.time.TimeType.TheVariants.{Wall, Standard, UTC}
-use Rattle.zone_values.specs.declared.time.TimeSpecAndType.{TimeSpecAndType}
-use Rattle.zone_values.specs.declared.weekday.Weekday.{Weekday}
 use Rattle.zone_values.specs.declared.weekday.Weekday.TheVariants as weekday
-use Rattle.zone_values.specs.declared.year.Year.{Year}
-use Rattle.zone_values.specs.declared.year.Year.TheVariants.{Minimum, Maximum, Number}
 
 abbrev pub two_digits : ℕ → List ℕ
 two_digits n = (48 + n / 10) ∷ (48 + n % 10) ∷ []

@@ -1,9 +1,7 @@
 -- Lines with their rulesets by the names of the plain form.
-use Rattle.std.specs.Prelude.{ℕ, List, [], Bool, bytes_eq, map}
-use Rattle.std.specs.List.{list_any}
+use Rattle.std.specs.{Prelude.{ℕ, List, [], Bool, bytes_eq, map}, List.{list_any}}
 use Rattle.zone_values.specs.Values.{SavingValue, no_saving, one_off, multiple, InfoValue, LineValue, space, zone, continuation, rule, link}
-use Rattle.zone_plain_base.specs.Marks.{mark}
-use Rattle.zone_plain_base.specs.Names.{said_name}
+use Rattle.zone_plain_base.specs.{Marks.{mark}, Names.{said_name}}
 
 -- the ruleset in RULES, or nothing
 abbrev pub saved_by : SavingValue → List ℕ

@@ -1,18 +1,11 @@
 -- What can be said: what is written of a line is read as what the line means.
-use Rattle.std.specs.Prelude.{ℕ, ◌-◌, ◌==◌, List, length, slice_index, Bool, false, ◌&&◌, not, Result, Ok, Err, if◌then◌else◌}
-use Rattle.std.specs.List.{list_any}
-use Rattle.std.specs.Str.{is_utf8}
-use Rattle.zone_line.specs.Fields.{is_ruleset_name}
-use Rattle.zone_line.specs.LineValues.{value}
+use Rattle.std.specs.{Prelude.{ℕ, ◌-◌, ◌==◌, List, length, slice_index, Bool, false, ◌&&◌, not, Result, Ok, Err, if◌then◌else◌}, List.{list_any}, Str.{is_utf8}}
+use Rattle.zone_line.specs.{Fields.{is_ruleset_name}, LineValues.{value}}
 use Rattle.zone_source.specs.Lines.{is_line_feed}
-use Rattle.zone_values.specs.Faults.{Fault}
-use Rattle.zone_values.specs.Values.{LineValue}
+use Rattle.zone_values.specs.{Faults.{Fault}, Values.{LineValue}}
 use Rattle.zone_plain_lines.specs.declared.cause.PlainCause.{PlainCause}
 use Rattle.zone_plain_lines.specs.declared.cause.PlainCause.TheVariants as cause
-use Rattle.zone_plain_base.specs.Same.{same_line}
-use Rattle.zone_plain_base.specs.PlainTexts.{plain_text}
-use Rattle.zone_plain_base.specs.Renamed.{ruleset_of}
-use Rattle.zone_plain_base.specs.Meant.{line_meaning, is_next}
+use Rattle.zone_plain_base.specs.{Same.{same_line}, PlainTexts.{plain_text}, Renamed.{ruleset_of}, Meant.{line_meaning, is_next}}
 
 -- what was read is this
 abbrev pub is_read_as : LineValue → Result LineValue Fault → Bool

@@ -1,24 +1,12 @@
 -- What is said is read back.
-use Rattle.std.proofs.Common.{◌≡◌, ℕ, ◌-◌, List, [], ◌∷◌, All, length, take, Bool, true, false, cond, not, Result, Ok, Err, refl, ap, rules}
-use Rattle.std.proofs.lemmas.Bool.{and_parts, or_parts, not-true}
-use Rattle.std.proofs.lemmas.List.Elements.{All-nil, All-cons}
-use Rattle.std.specs.Prelude.{◌&&◌}
-use Rattle.std.specs.List.{list_any}
-use Rattle.std.specs.Str.{is_utf8}
-use Rattle.std.specs.Str.Lines.{strip_carriage_return}
-use Rattle.zone_line.specs.LineValues.{value}
-use Rattle.zone_source.specs.Lines.{is_line_feed}
-use Rattle.zone_source.specs.Zones.{source_value}
-use Rattle.zone_values.specs.Faults.{Fault}
-use Rattle.zone_values.specs.Values.{LineValue}
-use Rattle.zone_line.specs.Fields.{is_ruleset_name}
-use Rattle.zone_plain_base.specs.Renamed.{ruleset_of}
+use Rattle.std.proofs.{Common.{◌≡◌, ℕ, ◌-◌, List, [], ◌∷◌, All, length, take, Bool, true, false, cond, not, Result, Ok, Err, refl, ap, rules}, lemmas.Bool.{and_parts, or_parts, not-true}, lemmas.List.Elements.{All-nil, All-cons}}
+use Rattle.std.specs.{Prelude.{◌&&◌}, List.{list_any}, Str.{is_utf8}, Str.Lines.{strip_carriage_return}}
+use Rattle.zone_line.specs.{LineValues.{value}, Fields.{is_ruleset_name}}
+use Rattle.zone_source.specs.{Lines.{is_line_feed}, Zones.{source_value}}
+use Rattle.zone_values.specs.{Faults.{Fault}, Values.{LineValue}}
+use Rattle.zone_plain_base.specs.{Renamed.{ruleset_of}, Meant.{line_meaning, is_next}, Said.{is_read_as, ends_returned, is_one_line, is_meant_as, is_read_by_both, is_said_by, is_said}, PlainTexts.{plain_text}, SameLaws.{line_is}}
 use Rattle.zone_plain_lines.specs.declared.cause.PlainCause.{PlainCause}
 use Rattle.zone_plain_lines.specs.declared.cause.PlainCause.TheVariants as cause
-use Rattle.zone_plain_base.specs.Meant.{line_meaning, is_next}
-use Rattle.zone_plain_base.specs.Said.{is_read_as, ends_returned, is_one_line, is_meant_as, is_read_by_both, is_said_by, is_said}
-use Rattle.zone_plain_base.specs.PlainTexts.{plain_text}
-use Rattle.zone_plain_base.specs.SameLaws.{line_is}
 
 -- what is read as a value is this value
 pub read_as : (meant : LineValue) (r : Result LineValue Fault) → is_read_as meant r ≡ true → r ≡ Ok meant

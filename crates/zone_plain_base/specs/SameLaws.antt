@@ -1,10 +1,6 @@
 -- Lines that are found to mean the same are one value.
-use Rattle.std.proofs.Common.{◌≡◌, Bool, true, Option, Some, None, refl, ap, bytes_eq}
-use Rattle.std.proofs.lemmas.Bool.{and_parts}
-use Rattle.std.proofs.lemmas.Slice.Eq.{bytes_eq-Decides}
-use Rattle.zone_values.specs.LogicLaws.{no_case}
-use Rattle.zone_values.specs.SameLaws.{time_is, marked_time_is, year_is, month_is, day_is, end_is}
-use Rattle.zone_values.specs.Values.{SavingValue, no_saving, one_off, multiple, InfoValue, RuleValue, LineValue, space, zone, continuation, rule, link}
+use Rattle.std.proofs.{Common.{◌≡◌, Bool, true, Option, Some, None, refl, ap, bytes_eq}, lemmas.Bool.{and_parts}, lemmas.Slice.Eq.{bytes_eq-Decides}}
+use Rattle.zone_values.specs.{LogicLaws.{no_case}, SameLaws.{time_is, marked_time_is, year_is, month_is, day_is, end_is}, Values.{SavingValue, no_saving, one_off, multiple, InfoValue, RuleValue, LineValue, space, zone, continuation, rule, link}}
 use Rattle.zone_values.specs.contracts.change.ChangeTimePartialEq.TheImpl as of_end
 use Rattle.zone_values.specs.contracts.year.YearPartialEq.TheImpl as of_year
 use Rattle.zone_plain_base.specs.Same.{same_option, same_saving, same_info, same_rule, same_line}

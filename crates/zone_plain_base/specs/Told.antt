@@ -1,10 +1,8 @@
 -- What an error of one line tells.
 use Rattle.std.specs.Prelude.{◌≡◌, ℕ, Result, Ok, Err}
 use Rattle.zone_plain_lines.specs.declared.cause.PlainCause.{PlainCause}
-use Rattle.zone_plain_base.specs.declared.error.PlainFault.{PlainFault}
+use Rattle.zone_plain_base.specs.declared.error.{PlainFault.{PlainFault}, Refused.{Refused}, Refused.TheVariants.{Cause, NoMemory}}
 use Rattle.zone_plain_base.specs.declared.error.PlainFault.TheVariants as fault
-use Rattle.zone_plain_base.specs.declared.error.Refused.{Refused}
-use Rattle.zone_plain_base.specs.declared.error.Refused.TheVariants.{Cause, NoMemory}
 
 -- what is told of the nth line
 abbrev pub fault_at : ℕ → Refused → PlainFault

@@ -3,8 +3,7 @@ ghost use Rattle.std.specs.Prelude.{◌≡◌, ◌<◌, ◌≤◌, ◌*◌, ◌^
 ghost use Rattle.zone_line.specs.Fields.{is_ruleset_name};
 ghost use Rattle.zone_plain_lines.specs.Columns.{ruleset_name};
 ghost use Rattle.zone_values.specs.Values.{LineValue};
-ghost use Rattle.zone_plain_base.specs.Names.{said_name};
-ghost use Rattle.zone_plain_base.specs.Renamed.{has_name, mark_of};
+ghost use Rattle.zone_plain_base.specs.{Names.{said_name}, Renamed.{has_name, mark_of}};
 
 /// A name that RULES can say stays as it is. In a source any other name becomes one that no line of it has, and no two names become
 /// one. The name of any bytes can be said, and is read as a name again where it was read as one. A mark is short: it has at most two bytes

@@ -1,11 +1,8 @@
 //! What a line of a source in any form means.
-ghost use Rattle.std.specs.Prelude.{◌≡◌};
-ghost use Rattle.std.specs.Str.{is_utf8};
+ghost use Rattle.std.specs.{Prelude.{◌≡◌}, Str.{is_utf8}};
 ghost use Rattle.zone_values.specs.Values.{line_value};
-ghost use Rattle.zone_plain_lines.specs.Meanings.{meaning};
-ghost use Rattle.zone_plain_lines.specs.Quotes.{pieces};
-ghost use Rattle.zone_plain_base.specs.Meant.{line_meaning, is_next};
-ghost use Rattle.zone_plain_base.specs.Told.{IsToldBy};
+ghost use Rattle.zone_plain_lines.specs.{Meanings.{meaning}, Quotes.{pieces}};
+ghost use Rattle.zone_plain_base.specs.{Meant.{line_meaning, is_next}, Told.{IsToldBy}};
 
 use crate::error::Refused;
 use std::alloc::Global;

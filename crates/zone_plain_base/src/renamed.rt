@@ -1,10 +1,8 @@
 //! The names of rulesets in the plain form, the mark in front of those that are made, and the lines that name them.
 ghost use Rattle.std.specs.Prelude.{◌≡◌, ◌<◌, ◌++◌, flat_map, string_bytes, OnOk, IfOk, map, option_map, option_to_list};
 ghost use Rattle.zone_line.specs.Fields.{is_ruleset_name};
-ghost use Rattle.zone_plain_base.specs.Names.{is_letter, letter, byte_text, said_name};
-ghost use Rattle.zone_plain_base.specs.Marks.{behind, ending, mark_behind, rarer, tails};
+ghost use Rattle.zone_plain_base.specs.{Names.{is_letter, letter, byte_text, said_name}, Marks.{behind, ending, mark_behind, rarer, tails}, Renamed.{saved_by, info_by, mark_of, ruleset_of, under}};
 ghost use Rattle.zone_values.specs.Values.{line_value, info_value, saving_value};
-ghost use Rattle.zone_plain_base.specs.Renamed.{saved_by, info_by, mark_of, ruleset_of, under};
 
 use std::alloc::{AllocError, Global};
 use zone_values::{Line, Rule, Saving, Zone, ZoneInfo};

@@ -2,10 +2,8 @@
 ghost use Rattle.std.specs.Prelude.{◌≡◌, ◌<◌, [], map, length, slice_index_or, IfOk};
 ghost use Rattle.zone_source.specs.Zones.{source_value};
 ghost use Rattle.zone_values.specs.Values.{line_value};
-ghost use Rattle.zone_plain_base.specs.PlainTexts.{plain_text};
-ghost use Rattle.zone_plain_base.specs.Meant.{line_meaning, is_next};
+ghost use Rattle.zone_plain_base.specs.{PlainTexts.{plain_text}, Meant.{line_meaning, is_next}, Said.{ends_returned, is_one_line, is_read_as, is_meant_as, is_read_by_both, is_said_by, is_said}};
 ghost use Rattle.zone_line.specs.LineValues.{value};
-ghost use Rattle.zone_plain_base.specs.Said.{ends_returned, is_one_line, is_read_as, is_meant_as, is_read_by_both, is_said_by, is_said};
 
 use crate::error::Refused;
 use crate::meant::{is_next, line_meant};

@@ -1,6 +1,5 @@
 //! The plain text of what a line means.
-ghost use Rattle.std.specs.Prelude.{◌≡◌, ◌++◌, ◌<◌, [], ◌∷◌, decimal, OnOk, option_map};
-ghost use Rattle.std.specs.Fmt.{signed_decimal};
+ghost use Rattle.std.specs.{Prelude.{◌≡◌, ◌++◌, ◌<◌, [], ◌∷◌, decimal, OnOk, option_map}, Fmt.{signed_decimal}};
 ghost use Rattle.zone_values.specs.Values.{line_value, rule_value, info_value, saving_value};
 ghost use Rattle.zone_plain_base.specs.PlainTexts.{two_digits, sign, clock_text, time_text, mark_text, month_text, weekday_text, day_text, year_text, to_text, letters_text, saving_text, years_text, moment_text, rule_text, end_text, stretch_text, info_text, plain_text};
 

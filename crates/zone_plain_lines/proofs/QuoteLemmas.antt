@@ -1,11 +1,7 @@
 -- What is laid out so far, and what is left of a line.
-use Rattle.std.proofs.Common.{◌≡◌, ℕ, List, [], ◌∷◌, ◌++◌, true, false, ◌||◌, not, refl, sym, ap, ◌∙◌, append_assoc, append-nil, drop, length, get_or, drop-cons, subst, ◌<◌, ◌≤◌, ◌+◌, arith}
-use Rattle.std.specs.Prelude.{flat_map}
-use Rattle.std.specs.List.{list_any}
-use Rattle.std.proofs.lemmas.List.{drop_all}
-use Rattle.zone_plain_lines.specs.Quotes.{mark, laid, laid_out, kept, after, begins_comment, closes_nothing, is_outside, is_mark_of_nothing, place_after, has_bad_quotes}
-use Rattle.zone_plain_lines.specs.declared.quotes.Place.{Place}
-use Rattle.zone_plain_lines.specs.declared.quotes.Place.TheVariants.{Outside}
+use Rattle.std.proofs.{Common.{◌≡◌, ℕ, List, [], ◌∷◌, ◌++◌, true, false, ◌||◌, not, refl, sym, ap, ◌∙◌, append_assoc, append-nil, drop, length, get_or, drop-cons, subst, ◌<◌, ◌≤◌, ◌+◌, arith}, lemmas.List.{drop_all}}
+use Rattle.std.specs.{Prelude.{flat_map}, List.{list_any}}
+use Rattle.zone_plain_lines.specs.{Quotes.{mark, laid, laid_out, kept, after, begins_comment, closes_nothing, is_outside, is_mark_of_nothing, place_after, has_bad_quotes}, declared.quotes.Place.{Place}, declared.quotes.Place.TheVariants.{Outside}}
 
 -- what was written, and what is to come from a place on
 pub record IsSoFar (line text : List ℕ) (place : Place) (rest : List ℕ) : Type 0 where

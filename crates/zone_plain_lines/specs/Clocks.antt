@@ -1,21 +1,11 @@
 -- Times of day, offsets and savings, in seconds.
 use Rattle.std.specs.Prelude.{ℕ, ◌+◌, ◌*◌, ◌/◌, ◌%◌, ◌-◌, ℤ, pos, neg_ℤ, Bool, true, false, ◌&&◌, ◌||◌, not, ◌==◌, List, [], ◌∷◌, length, slice_index, Option, Some, None, option_map, Result, Ok, Err, ok_or, codes, bytes_eq, nat_lt, if◌then◌else◌}
-use Rattle.std.specs.List.{list_all}
-use Rattle.std.specs.Option.{option_map_or}
-use Rattle.basics.specs.Marks.{after_mark, before_mark, cut}
-use Rattle.basics.specs.Numbers.{is_numeral}
-use Rattle.zone_values.specs.Seconds.{with_type}
-use Rattle.zone_values.specs.declared.time.TimeSpec.{TimeSpec}
-use Rattle.zone_values.specs.declared.time.TimeSpec.TheVariants.{Hours, HoursMinutes, HoursMinutesSeconds}
-use Rattle.zone_values.specs.declared.time.TimeType.{TimeType}
-use Rattle.zone_values.specs.declared.time.TimeType.TheVariants.{Wall, Standard, UTC}
-use Rattle.zone_values.specs.declared.time.TimeSpecAndType.{TimeSpecAndType}
-use Rattle.zone_plain_lines.specs.Numbers.{number_between}
-use Rattle.zone_plain_lines.specs.Steps.{then_some}
-use Rattle.zone_values.specs.Results.{◌>>=◌}
-use Rattle.zone_plain_lines.specs.declared.cause.PlainCause.{PlainCause}
+use Rattle.std.specs.{List.{list_all}, Option.{option_map_or}}
+use Rattle.basics.specs.{Marks.{after_mark, before_mark, cut}, Numbers.{is_numeral}}
+use Rattle.zone_values.specs.{Seconds.{with_type}, declared.time.TimeSpec.{TimeSpec}, declared.time.TimeSpec.TheVariants.{Hours, HoursMinutes, HoursMinutesSeconds}, declared.time.TimeType.{TimeType}, declared.time.TimeType.TheVariants.{Wall, Standard, UTC}}
+use Rattle.zone_values.specs.{declared.time.TimeSpecAndType.{TimeSpecAndType}, Results.{◌>>=◌}}
+use Rattle.zone_plain_lines.specs.{Numbers.{number_between}, Steps.{then_some}, declared.cause.PlainCause.{PlainCause}, declared.clock.Amount.{Amount}}
 use Rattle.zone_plain_lines.specs.declared.cause.PlainCause.TheVariants as cause
-use Rattle.zone_plain_lines.specs.declared.clock.Amount.{Amount}
 
 -- a number of seconds with a sign
 abbrev pub amount : Bool → ℕ → Amount

@@ -1,21 +1,9 @@
 -- The days of a month that rules and ends name.
-use Rattle.std.specs.Prelude.{ℕ, ◌==◌, ℤ, pos, Bool, false, ◌&&◌, not, List, Option, Some, None, Result, Ok, Err, ok_or, if◌then◌else◌}
-use Rattle.std.specs.Option.{option_map_or}
-use Rattle.std.specs.Ordering.{int_eq}
-use Rattle.basics.specs.Days.{days_in_month, is_leap}
-use Rattle.basics.specs.Marks.{after_mark, cut}
-use Rattle.zone_values.specs.Months.{month_number}
-use Rattle.zone_values.specs.declared.day.DaySpec.{DaySpec}
-use Rattle.zone_values.specs.declared.day.DaySpec.TheVariants.{Ordinal, Last, LastOnOrBefore, FirstOnOrAfter}
-use Rattle.zone_values.specs.declared.month.Month.{Month}
-use Rattle.zone_values.specs.declared.weekday.Weekday.{Weekday}
-use Rattle.zone_values.specs.declared.year.Year.{Year}
-use Rattle.zone_values.specs.declared.year.Year.TheVariants.{Minimum, Maximum, Number}
-use Rattle.zone_plain_lines.specs.Columns.{is_after}
-use Rattle.zone_plain_lines.specs.Numbers.{number_between}
-use Rattle.zone_values.specs.Results.{◌>>=◌}
-use Rattle.zone_plain_lines.specs.Words.{weekday_of, last_weekday_of}
-use Rattle.zone_plain_lines.specs.declared.cause.PlainCause.{PlainCause}
+use Rattle.std.specs.{Prelude.{ℕ, ◌==◌, ℤ, pos, Bool, false, ◌&&◌, not, List, Option, Some, None, Result, Ok, Err, ok_or, if◌then◌else◌}, Option.{option_map_or}, Ordering.{int_eq}}
+use Rattle.basics.specs.{Days.{days_in_month, is_leap}, Marks.{after_mark, cut}}
+use Rattle.zone_values.specs.{Months.{month_number}, declared.day.DaySpec.{DaySpec}, declared.day.DaySpec.TheVariants.{Ordinal, Last, LastOnOrBefore, FirstOnOrAfter}, declared.month.Month.{Month}, declared.weekday.Weekday.{Weekday}, declared.year.Year.{Year}}
+use Rattle.zone_values.specs.{declared.year.Year.TheVariants.{Minimum, Maximum, Number}, Results.{◌>>=◌}}
+use Rattle.zone_plain_lines.specs.{Columns.{is_after}, Numbers.{number_between}, Words.{weekday_of, last_weekday_of}, declared.cause.PlainCause.{PlainCause}}
 use Rattle.zone_plain_lines.specs.declared.cause.PlainCause.TheVariants as cause
 
 -- the number is that of February 29, which leap years alone have

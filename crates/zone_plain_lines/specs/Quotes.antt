@@ -1,10 +1,6 @@
 -- The fields of a line: parted by white space, without a comment and without quotes.
-use Rattle.std.specs.Prelude.{ℕ, List, [], ◌∷◌, Bool, true, false, ◌||◌, ◌&&◌, not, ◌==◌, length, filter, flat_map, if◌then◌else◌, Result, Ok, Err, nat_lt}
-use Rattle.std.specs.List.{slice_split, list_any}
-use Rattle.zone_plain_lines.specs.declared.quotes.Place.{Place}
-use Rattle.zone_plain_lines.specs.declared.quotes.Place.TheVariants.{Outside, Opened, Within}
-use Rattle.zone_plain_lines.specs.declared.cause.PlainCause.{PlainCause}
-use Rattle.zone_plain_lines.specs.declared.cause.PlainCause.TheVariants.{Quotes}
+use Rattle.std.specs.{Prelude.{ℕ, List, [], ◌∷◌, Bool, true, false, ◌||◌, ◌&&◌, not, ◌==◌, length, filter, flat_map, if◌then◌else◌, Result, Ok, Err, nat_lt}, List.{slice_split, list_any}}
+use Rattle.zone_plain_lines.specs.declared.{quotes.Place.{Place}, quotes.Place.TheVariants.{Outside, Opened, Within}, cause.PlainCause.{PlainCause}, cause.PlainCause.TheVariants.{Quotes}}
 
 -- space, tab, form feed, carriage return, vertical tab
 abbrev pub is_white : ℕ → Bool

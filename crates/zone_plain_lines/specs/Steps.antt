@@ -1,6 +1,5 @@
 -- Readings that may fail, one after another.
-use Rattle.std.specs.Prelude.{Option, option_and_then, Result}
-use Rattle.std.specs.Result.{result_map_both}
+use Rattle.std.specs.{Prelude.{Option, option_and_then, Result}, Result.{result_map_both}}
 
 -- the next value needs the one before
 abbrev pub then_some : {A B : Type 0} → Option A → (A → Option B) → Option B

@@ -1,18 +1,10 @@
 -- Words in any case, in full or abbreviated to a beginning that fits one word of their list alone; a word in full is such a beginning, since no
 -- word of a list begins another.
-use Rattle.std.specs.Prelude.{ℕ, List, [], ◌∷◌, drop, length, take, Bool, ◌&&◌, Option, Some, None, Result, ok_or, codes, bytes_eq, nat_le, filter, if◌then◌else◌}
-use Rattle.std.specs.Borrow.{Bor}
-use Rattle.zone_values.specs.Names.{lower}
-use Rattle.zone_values.specs.declared.month.Month.{Month}
-use Rattle.zone_values.specs.declared.month.Month.TheVariants.{January, February, March, April, May, June, July, August, September, October, November, December}
-use Rattle.zone_values.specs.declared.weekday.Weekday.{Weekday}
-use Rattle.zone_values.specs.declared.weekday.Weekday.TheVariants.{Sunday, Monday, Tuesday, Wednesday, Thursday, Friday, Saturday}
-use Rattle.zone_values.specs.declared.year.Year.{Year}
-use Rattle.zone_values.specs.declared.year.Year.TheVariants.{Minimum, Maximum}
-use Rattle.zone_plain_lines.specs.declared.cause.PlainCause.{PlainCause}
+use Rattle.std.specs.{Prelude.{ℕ, List, [], ◌∷◌, drop, length, take, Bool, ◌&&◌, Option, Some, None, Result, ok_or, codes, bytes_eq, nat_le, filter, if◌then◌else◌}, Borrow.{Bor}}
+use Rattle.zone_values.specs.{Names.{lower}, declared.month.Month.{Month}, declared.month.Month.TheVariants.{January, February, March, April, May, June, July, August, September, October, November, December}, declared.weekday.Weekday.{Weekday}}
+use Rattle.zone_values.specs.declared.{weekday.Weekday.TheVariants.{Sunday, Monday, Tuesday, Wednesday, Thursday, Friday, Saturday}, year.Year.{Year}, year.Year.TheVariants.{Minimum, Maximum}}
+use Rattle.zone_plain_lines.specs.declared.{cause.PlainCause.{PlainCause}, words.LineWord.{LineWord}, words.LineWord.TheVariants.{Rule, Zone, Link}}
 use Rattle.zone_plain_lines.specs.declared.cause.PlainCause.TheVariants as cause
-use Rattle.zone_plain_lines.specs.declared.words.LineWord.{LineWord}
-use Rattle.zone_plain_lines.specs.declared.words.LineWord.TheVariants.{Rule, Zone, Link}
 
 -- the text is a beginning of the word, in any case
 abbrev pub begins : List ℕ → List ℕ → Bool

@@ -1,14 +1,13 @@
 //! Numbers, times of day, offsets, savings and days.
 ghost use Rattle.std.specs.Prelude.{◌≡◌, ◌≤◌, IfSome, ◌<◌, IfOk, Some};
-ghost use Rattle.zone_plain_lines.specs.Numbers.{number_between};
-ghost use Rattle.basics.specs.Days.{is_leap};
-ghost use Rattle.zone_plain_lines.specs.Days.{is_leap_day, longest, day_number, side_of, up_to, sided, day_of, needs_leap_day, is_leap_year, are_leap_years, if_there};
+ghost use Rattle.zone_plain_lines.specs.{Numbers.{number_between}, Days.{is_leap_day, longest, day_number, side_of, up_to, sided, day_of, needs_leap_day, is_leap_year, are_leap_years, if_there}};
 ghost use Rattle.zone_plain_lines.specs.Clocks.{part, clock_spec, amount_spec, is_half, is_above_half, rounds_up, second_of, rounded, are_zeros, minutes_below, unsigned, clock_of, amount_of, saved, clock_marked, at_of, last_byte, marked};
+ghost use Rattle.basics.specs.Days.{is_leap};
 
 use crate::cause::PlainCause;
 use crate::lines::is_after;
 use crate::words::{last_weekday_of, weekday_of};
-use basics::{month_length, after_mark, before_mark, cut, is_numeral, u8_of_digits};
+use basics::{after_mark, before_mark, cut, is_numeral, month_length, u8_of_digits};
 use zone_values::{DaySpec, Month, TimeSpec, TimeSpecAndType, TimeType, Weekday, Year};
 
 /// The number that ASCII digits write, where it is from the first to the last of two numbers.

@@ -1,7 +1,6 @@
 //! The fields of a line.
 ghost use Rattle.std.specs.Prelude.{◌≡◌, ◌++◌, true, false, not, List, ℕ, map, flat_map, IfOk, OnOk};
-ghost use Rattle.zone_plain_lines.specs.Quotes.{laid, laid_out, kept, mark, pieces, has_bad_quotes};
-ghost use Rattle.zone_plain_lines.specs.declared.quotes.Place.TheVariants.{Outside};
+ghost use Rattle.zone_plain_lines.specs.{Quotes.{laid, laid_out, kept, mark, pieces, has_bad_quotes}, declared.quotes.Place.TheVariants.{Outside}};
 
 use crate::quotes::Place;
 use std::alloc::{AllocError, Global};

@@ -1,17 +1,8 @@
 -- What is due of an instant that a zone shows.
-use Rattle.std.proofs.Common.{◌≡◌, ℕ, ℤ, List, Bool, true, false, not, cond, ap, sym, ◌∙◌, refl}
-use Rattle.std.specs.Prelude.{Ok, Err}
-use Rattle.civil_base.specs.DateTimes.{instant, local_of, offset_of}
-use Rattle.civil_base.specs.Instants.{local_at}
-use Rattle.civil_base.specs.Ranges.{is_in_years}
-use Rattle.civil_base.specs.declared.offset_date_time.OffsetDateTime.{OffsetDateTime}
-use Rattle.zone_moments.specs.declared.answer_form.AnswerForm.{AnswerForm}
-use Rattle.zone_moments.specs.declared.answer_form.AnswerForm.TheVariants.{People, Rfc3339, Epoch, Json}
-use Rattle.zone_replies.specs.Faults.{Due}
-use Rattle.zone_replies.specs.Instants.{at_due, instant_text, is_untold, kind_at, shown_due, IsKindFor}
-use Rattle.zone_replies.specs.Views.{ZoneView}
-use Rattle.zone_replies.specs.declared.fault.ReplyFault.TheVariants.{OutOfYears, Untold}
-use Rattle.zone_replies.specs.declared.kind.Kind.{Kind}
+use Rattle.std.{proofs.Common.{◌≡◌, ℕ, ℤ, List, Bool, true, false, not, cond, ap, sym, ◌∙◌, refl}, specs.Prelude.{Ok, Err}}
+use Rattle.civil_base.specs.{DateTimes.{instant, local_of, offset_of}, Instants.{local_at}, Ranges.{is_in_years}, declared.offset_date_time.OffsetDateTime.{OffsetDateTime}}
+use Rattle.zone_moments.specs.declared.answer_form.AnswerForm.{AnswerForm, TheVariants.{People, Rfc3339, Epoch, Json}}
+use Rattle.zone_replies.specs.{Faults.{Due}, Instants.{at_due, instant_text, is_untold, kind_at, shown_due, IsKindFor}, Views.{ZoneView}, declared.fault.ReplyFault.TheVariants.{OutOfYears, Untold}, declared.kind.Kind.{Kind}}
 use Rattle.zone_replies.proofs.LocalLemmas.{local_is}
 
 -- a date-time of a zone at an instant shows the local time there

@@ -1,14 +1,8 @@
 -- The lines of changes.
-use Rattle.std.proofs.Common.{◌≡◌, ℕ, ℤ, pos, ◌-ℤ◌, List, [], ◌∷◌, ◌++◌, Bool, ◌&&◌, true, false, cond, refl, ap, sym, ◌∙◌}
-use Rattle.std.specs.Prelude.{Ok, Err}
+use Rattle.std.{proofs.Common.{◌≡◌, ℕ, ℤ, pos, ◌-ℤ◌, List, [], ◌∷◌, ◌++◌, Bool, ◌&&◌, true, false, cond, refl, ap, sym, ◌∙◌}, specs.Prelude.{Ok, Err}}
 use Rattle.civil_base.specs.Instants.{nanos_of}
 use Rattle.zone_moments.specs.declared.answer_form.AnswerForm.{AnswerForm}
-use Rattle.zone_replies.specs.Faults.{Due, each_due}
-use Rattle.zone_replies.specs.Instants.{is_untold}
-use Rattle.zone_replies.specs.Lists.{change_due, change_text, list_due, second_from}
-use Rattle.zone_replies.specs.Skips.{has_dates}
-use Rattle.zone_replies.specs.Views.{InForce, ZoneView}
-use Rattle.zone_replies.specs.declared.fault.ReplyFault.TheVariants.{OutOfYears, Untold}
+use Rattle.zone_replies.specs.{Faults.{Due, each_due}, Instants.{is_untold}, Lists.{change_due, change_text, list_due, second_from}, Skips.{has_dates}, Views.{InForce, ZoneView}, declared.fault.ReplyFault.TheVariants.{OutOfYears, Untold}}
 
 abbrev line_if : Bool → List ℕ → Due
 line_if has text = cond has (Ok (text ++ 10 ∷ [])) (Err OutOfYears)

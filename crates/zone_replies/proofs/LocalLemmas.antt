@@ -1,9 +1,7 @@
 -- What clocks show, from the instant and the offset.
 use Rattle.std.proofs.Common.{◌≡◌, arith, ℤ, pos}
 use Rattle.basics.specs.SignedLaws.{signed}
-use Rattle.civil_base.specs.DateTimes.{instant, local_of, offset_of}
-use Rattle.civil_base.specs.Instants.{local_at}
-use Rattle.civil_base.specs.declared.offset_date_time.OffsetDateTime.{OffsetDateTime}
+use Rattle.civil_base.specs.{DateTimes.{instant, local_of, offset_of}, Instants.{local_at}, declared.offset_date_time.OffsetDateTime.{OffsetDateTime}}
 
 pub local_is : (value : OffsetDateTime) → local_of value ≡ local_at (instant value) (offset_of value)
 unfolding instant

@@ -1,29 +1,12 @@
 -- Replies about Berlin in 2024, as Python's `zoneinfo` has its times.
 use Rattle.std.proofs.Common.{◌≡◌, refl, ap, ◌∙◌, arith, Bool, true, false, not, lit≤, ◌++◌, ◌∷◌, [], List, ℕ, ℤ, map, pos, filter, int_le, int_lt, ◌&&◌, ◌+ℤ◌, ◌-ℤ◌, ◌*ℤ◌, cond, Ok, Err, Some, None}
-use Rattle.std.specs.Prelude.{codes}
-use Rattle.std.specs.Fmt.{digits}
-use Rattle.std.specs.Ordering.{int_eq}
-use Rattle.basics.specs.DateLaws.{year_of-day}
-use Rattle.basics.specs.Dates.{year_of}
-use Rattle.basics.specs.Days.{is_leap, days_in_year, days_in_month, days_after_zero, days_before_zero, year_start, days_through, days_into_year, day, IsCountedYear}
-use Rattle.basics.specs.SignedLaws.{signed}
-use Rattle.civil_base.specs.Instants.{local_at, seconds_of}
-use Rattle.civil_base.specs.Layout.{day_part}
-use Rattle.civil_base.specs.Ranges.{is_in_years}
-use Rattle.zone_moments.specs.Written.{epoch_text, seconds_text, fraction_text, moment_text, offset_shown, people_text}
-use Rattle.zone_moments.specs.declared.answer_form.AnswerForm.{AnswerForm}
-use Rattle.zone_moments.specs.declared.answer_form.AnswerForm.TheVariants.{People, Epoch, Json}
-use Rattle.zone_replies.specs.Faults.{Due, behind, each_due, followed}
-use Rattle.zone_replies.specs.Instants.{instant_text, is_untold, shown_due}
-use Rattle.zone_replies.specs.Kinds.{kind_of, kind_text}
-use Rattle.zone_replies.specs.Lists.{change_due, kind_between, second_from, sides_text}
-use Rattle.zone_replies.specs.Objects.{clock_members, force_members, front_members, kind_member, object_text, quoted}
-use Rattle.zone_replies.specs.Readings.{convert_due, local_due}
-use Rattle.zone_replies.specs.Skips.{from_to_text, gap_due, skipping}
-use Rattle.zone_replies.specs.Views.{InForce, ZoneView}
-use Rattle.zone_replies.specs.declared.fault.ReplyFault.TheVariants.{OutOfYears, Untold}
-use Rattle.zone_replies.specs.declared.kind.Kind.{Kind}
-use Rattle.zone_replies.specs.declared.kind.Kind.TheVariants.{One, Gap, Fold}
+use Rattle.std.specs.{Prelude.{codes}, Fmt.{digits}, Ordering.{int_eq}}
+use Rattle.basics.specs.{DateLaws.{year_of-day}, Dates.{year_of}, Days.{is_leap, days_in_year, days_in_month, days_after_zero, days_before_zero, year_start, days_through, days_into_year, day, IsCountedYear}, SignedLaws.{signed}}
+use Rattle.civil_base.specs.{Instants.{local_at, seconds_of}, Layout.{day_part}, Ranges.{is_in_years}}
+use Rattle.zone_moments.specs.{Written.{epoch_text, seconds_text, fraction_text, moment_text, offset_shown, people_text}, declared.answer_form.AnswerForm.{AnswerForm}, declared.answer_form.AnswerForm.TheVariants.{People, Epoch, Json}}
+use Rattle.zone_replies.specs.{Faults.{Due, behind, each_due, followed}, Instants.{instant_text, is_untold, shown_due}, Kinds.{kind_of, kind_text}, Lists.{change_due, kind_between, second_from, sides_text}}
+use Rattle.zone_replies.specs.{Objects.{clock_members, force_members, front_members, kind_member, object_text, quoted}, Readings.{convert_due, local_due}, Skips.{from_to_text, gap_due, skipping}, Views.{InForce, ZoneView}}
+use Rattle.zone_replies.specs.declared.{fault.ReplyFault.TheVariants.{OutOfYears, Untold}, kind.Kind.{Kind}, kind.Kind.TheVariants.{One, Gap, Fold}}
 
 winter : InForce
 winter = record { offset = pos 3600; saving = pos 0; name = codes "CET" }

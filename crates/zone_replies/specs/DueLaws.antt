@@ -1,11 +1,7 @@
 -- Texts that are due, one behind another.
-use Rattle.std.proofs.Common.{◌≡◌, ℕ, ◌+◌, ◌<◌, ◌≤◌, List, [], ◌++◌, length, map, drop, slice_index_or, append_assoc, append-nil, ap, subst, sym, ◌∙◌, refl}
-use Rattle.std.proofs.lemmas.List.{at_drop_more, at_drop_all}
-use Rattle.std.specs.Prelude.{Ok, Err}
-use Rattle.std.specs.Result.{result_unwrap_or}
-use Rattle.zone_replies.specs.Faults.{Due, behind, each_due, followed, IsFaultOf}
-use Rattle.zone_replies.specs.declared.fault.ReplyFault.{ReplyFault}
-use Rattle.zone_replies.specs.declared.fault.ReplyFault.TheVariants.{OutOfYears, Untold, NoMemory}
+use Rattle.std.proofs.{Common.{◌≡◌, ℕ, ◌+◌, ◌<◌, ◌≤◌, List, [], ◌++◌, length, map, drop, slice_index_or, append_assoc, append-nil, ap, subst, sym, ◌∙◌, refl}, lemmas.List.{at_drop_more, at_drop_all}}
+use Rattle.std.specs.{Prelude.{Ok, Err}, Result.{result_unwrap_or}}
+use Rattle.zone_replies.specs.{Faults.{Due, behind, each_due, followed, IsFaultOf}, declared.fault.ReplyFault.{ReplyFault}, declared.fault.ReplyFault.TheVariants.{OutOfYears, Untold, NoMemory}}
 
 -- the fault of one is that of another
 pub pass : (d due : Due) → ((f : ReplyFault) → d ≡ Err f → due ≡ Err f) → (f : ReplyFault) → IsFaultOf d f → IsFaultOf due f

@@ -1,7 +1,6 @@
 -- Texts that are due, or why there is none.
 use Rattle.std.specs.Prelude.{◌≡◌, ℕ, List, [], ◌∷◌, ◌++◌, Result, Ok, Err}
-use Rattle.zone_replies.specs.declared.fault.ReplyFault.{ReplyFault}
-use Rattle.zone_replies.specs.declared.fault.ReplyFault.TheVariants.{OutOfYears, Untold, NoMemory}
+use Rattle.zone_replies.specs.declared.fault.ReplyFault.{ReplyFault, TheVariants.{OutOfYears, Untold, NoMemory}}
 
 -- a text that is due, or the fault
 abbrev pub Due : Type 0

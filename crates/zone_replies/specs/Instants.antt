@@ -1,18 +1,9 @@
 -- Instants of a zone as they are written.
 use Rattle.std.specs.Prelude.{◌≡◌, Bool, not, List, ℕ, length, ℤ, int_lt, Ok, Err, if◌then◌else◌}
 use Rattle.basics.specs.Dates.{year_of}
-use Rattle.civil_base.specs.Instants.{local_at, seconds_of}
-use Rattle.civil_base.specs.Layout.{day_part}
-use Rattle.civil_base.specs.Ranges.{is_in_years}
-use Rattle.zone_moments.specs.Written.{epoch_text, people_text, rfc3339_text}
-use Rattle.zone_moments.specs.declared.answer_form.AnswerForm.{AnswerForm}
-use Rattle.zone_moments.specs.declared.answer_form.AnswerForm.TheVariants.{People, Rfc3339, Epoch, Json}
-use Rattle.zone_replies.specs.Faults.{Due, ended}
-use Rattle.zone_replies.specs.Kinds.{kind_of}
-use Rattle.zone_replies.specs.Objects.{object_text}
-use Rattle.zone_replies.specs.Views.{ZoneView}
-use Rattle.zone_replies.specs.declared.fault.ReplyFault.TheVariants.{OutOfYears, Untold}
-use Rattle.zone_replies.specs.declared.kind.Kind.{Kind}
+use Rattle.civil_base.specs.{Instants.{local_at, seconds_of}, Layout.{day_part}, Ranges.{is_in_years}}
+use Rattle.zone_moments.specs.{Written.{epoch_text, people_text, rfc3339_text}, declared.answer_form.AnswerForm.{AnswerForm}, declared.answer_form.AnswerForm.TheVariants.{People, Rfc3339, Epoch, Json}}
+use Rattle.zone_replies.specs.{Faults.{Due, ended}, Kinds.{kind_of}, Objects.{object_text}, Views.{ZoneView}, declared.fault.ReplyFault.TheVariants.{OutOfYears, Untold}, declared.kind.Kind.{Kind}}
 
 -- the instant t with the offset o in force, in a form
 abbrev pub instant_text : AnswerForm → ZoneView → List ℕ → Kind → ℤ → ℤ → List ℕ

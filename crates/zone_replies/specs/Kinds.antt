@@ -1,7 +1,6 @@
 -- How many instants a local time has, in a word.
 use Rattle.std.specs.Prelude.{ℕ, ◌==◌, List, codes, if◌then◌else◌}
-use Rattle.zone_replies.specs.declared.kind.Kind.{Kind}
-use Rattle.zone_replies.specs.declared.kind.Kind.TheVariants.{One, Gap, Fold, More}
+use Rattle.zone_replies.specs.declared.kind.Kind.{Kind, TheVariants.{One, Gap, Fold, More}}
 
 abbrev pub kind_of : ℕ → Kind
 kind_of count = if count == 0 then Gap else (if count == 1 then One else (if count == 2 then Fold else More))

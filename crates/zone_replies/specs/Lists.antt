@@ -1,17 +1,8 @@
 -- The reply to `list`.
-use Rattle.std.specs.Prelude.{◌&&◌, ℕ, List, [], ◌∷◌, ◌++◌, codes, Ok, Err, int_lt, ℤ, pos, ◌+ℤ◌, ◌-ℤ◌, if◌then◌else◌}
-use Rattle.std.specs.Fmt.{signed_decimal}
+use Rattle.std.specs.{Prelude.{◌&&◌, ℕ, List, [], ◌∷◌, ◌++◌, codes, Ok, Err, int_lt, ℤ, pos, ◌+ℤ◌, ◌-ℤ◌, if◌then◌else◌}, Fmt.{signed_decimal}}
 use Rattle.civil_base.specs.Instants.{local_at, nanos_of, seconds_of}
-use Rattle.zone_moments.specs.Written.{epoch_text, offset_shown, people_text, rfc3339_text}
-use Rattle.zone_moments.specs.declared.answer_form.AnswerForm.{AnswerForm}
-use Rattle.zone_moments.specs.declared.answer_form.AnswerForm.TheVariants.{People, Rfc3339, Epoch, Json}
-use Rattle.zone_replies.specs.Faults.{Due, each_due}
-use Rattle.zone_replies.specs.Instants.{is_untold}
-use Rattle.zone_replies.specs.Objects.{change_object_text}
-use Rattle.zone_replies.specs.Skips.{after_of, before_of, has_dates}
-use Rattle.zone_replies.specs.Views.{InForce, ZoneView}
-use Rattle.zone_replies.specs.declared.fault.ReplyFault.TheVariants.{OutOfYears, Untold}
-use Rattle.zone_replies.specs.declared.kind.Kind.{Kind}
+use Rattle.zone_moments.specs.{Written.{epoch_text, offset_shown, people_text, rfc3339_text}, declared.answer_form.AnswerForm.{AnswerForm}, declared.answer_form.AnswerForm.TheVariants.{People, Rfc3339, Epoch, Json}}
+use Rattle.zone_replies.specs.{Faults.{Due, each_due}, Instants.{is_untold}, Objects.{change_object_text}, Skips.{after_of, before_of, has_dates}, Views.{InForce, ZoneView}, declared.fault.ReplyFault.TheVariants.{OutOfYears, Untold}, declared.kind.Kind.{Kind}}
 use Rattle.zone_replies.specs.declared.kind.Kind.TheVariants.{One, Gap, Fold}
 
 -- what clocks show at an instant by what is in force on one side of it

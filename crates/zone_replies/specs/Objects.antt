@@ -1,11 +1,7 @@
 -- Objects of JSON.
-use Rattle.std.specs.Prelude.{ℕ, ◌+◌, ◌/◌, ◌%◌, ◌==◌, ◌||◌, List, [], ◌∷◌, ◌++◌, codes, ℤ, nat_lt, if◌then◌else◌}
-use Rattle.std.specs.Fmt.{signed_decimal}
-use Rattle.std.specs.List.{flat_map}
+use Rattle.std.specs.{Prelude.{ℕ, ◌+◌, ◌/◌, ◌%◌, ◌==◌, ◌||◌, List, [], ◌∷◌, ◌++◌, codes, ℤ, nat_lt, if◌then◌else◌}, Fmt.{signed_decimal}, List.{flat_map}}
 use Rattle.zone_moments.specs.Written.{seconds_text, moment_text, offset_shown}
-use Rattle.zone_replies.specs.Kinds.{kind_text}
-use Rattle.zone_replies.specs.Views.{InForce}
-use Rattle.zone_replies.specs.declared.kind.Kind.{Kind}
+use Rattle.zone_replies.specs.{Kinds.{kind_text}, Views.{InForce}, declared.kind.Kind.{Kind}}
 
 abbrev pub hex_digit : ℕ → ℕ
 hex_digit n = if nat_lt n 10 then 48 + n else 87 + n

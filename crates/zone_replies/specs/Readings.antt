@@ -1,13 +1,7 @@
 -- The replies to `local` and `convert`.
 use Rattle.std.specs.Prelude.{ℕ, ◌+◌, List, [], ◌∷◌, length, Err, ℤ, if◌then◌else◌}
 use Rattle.zone_moments.specs.declared.answer_form.AnswerForm.{AnswerForm}
-use Rattle.zone_replies.specs.Faults.{Due, behind, each_due, followed}
-use Rattle.zone_replies.specs.Instants.{is_untold, shown_due}
-use Rattle.zone_replies.specs.Kinds.{kind_of}
-use Rattle.zone_replies.specs.Skips.{gap_due}
-use Rattle.zone_replies.specs.Views.{ZoneView}
-use Rattle.zone_replies.specs.declared.fault.ReplyFault.TheVariants.{Untold}
-use Rattle.zone_replies.specs.declared.kind.Kind.{Kind}
+use Rattle.zone_replies.specs.{Faults.{Due, behind, each_due, followed}, Instants.{is_untold, shown_due}, Kinds.{kind_of}, Skips.{gap_due}, Views.{ZoneView}, declared.fault.ReplyFault.TheVariants.{Untold}, declared.kind.Kind.{Kind}}
 
 -- these instants as clocks of a zone show them, each after a separator
 abbrev pub after_each : AnswerForm → ZoneView → List ℕ → Kind → List ℕ → List ℤ → Due

@@ -1,16 +1,8 @@
 -- Local times that clocks skip.
 use Rattle.std.specs.Prelude.{Bool, ◌&&◌, ℕ, List, ◌++◌, codes, Option, Some, None, Ok, Err, find, int_le, int_lt, ℤ, pos, ◌+ℤ◌, ◌-ℤ◌, if◌then◌else◌}
-use Rattle.civil_base.specs.Instants.{local_at, nanos_of, seconds_of}
-use Rattle.civil_base.specs.Ranges.{is_in_years}
-use Rattle.zone_moments.specs.Written.{offset_shown}
-use Rattle.zone_moments.specs.declared.answer_form.AnswerForm.{AnswerForm}
-use Rattle.zone_moments.specs.declared.answer_form.AnswerForm.TheVariants.{People, Rfc3339, Epoch, Json}
-use Rattle.zone_replies.specs.Faults.{Due}
-use Rattle.zone_replies.specs.Instants.{instant_text}
-use Rattle.zone_replies.specs.Objects.{change_object_text}
-use Rattle.zone_replies.specs.Views.{ZoneView}
-use Rattle.zone_replies.specs.declared.fault.ReplyFault.TheVariants.{OutOfYears}
-use Rattle.zone_replies.specs.declared.kind.Kind.TheVariants.{Gap}
+use Rattle.civil_base.specs.{Instants.{local_at, nanos_of, seconds_of}, Ranges.{is_in_years}}
+use Rattle.zone_moments.specs.{Written.{offset_shown}, declared.answer_form.AnswerForm.{AnswerForm}, declared.answer_form.AnswerForm.TheVariants.{People, Rfc3339, Epoch, Json}}
+use Rattle.zone_replies.specs.{Faults.{Due}, Instants.{instant_text}, Objects.{change_object_text}, Views.{ZoneView}, declared.fault.ReplyFault.TheVariants.{OutOfYears}, declared.kind.Kind.TheVariants.{Gap}}
 
 -- the offsets in force just before a second, and from it on
 abbrev pub before_of : ZoneView → ℤ → ℤ

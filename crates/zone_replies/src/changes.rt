@@ -1,10 +1,7 @@
 //! The reply to `list`.
 ghost use Rattle.std.specs.Prelude.{◌≡◌, ◌++◌, ◌∷◌, IfErr, Ok, OnErr, OnOk};
 ghost use Rattle.civil_base.specs.DateTimes.{instant, local_of, offset_of};
-ghost use Rattle.zone_replies.specs.Faults.{behind, each_due, IsFaultOf};
-ghost use Rattle.zone_replies.specs.Forces.{force_shown};
-ghost use Rattle.zone_replies.specs.Lists.{change_due, change_text, kind_between, list_due, second_from, side_text, sides_text};
-ghost use Rattle.zone_replies.specs.Objects.{change_object_text};
+ghost use Rattle.zone_replies.specs.{Faults.{behind, each_due, IsFaultOf}, Forces.{force_shown}, Lists.{change_due, change_text, kind_between, list_due, second_from, side_text, sides_text}, Objects.{change_object_text}};
 
 use crate::bytes::add_bytes;
 use crate::fault::ReplyFault;

@@ -1,11 +1,8 @@
 //! An instant as clocks of a zone show it, in each form.
 ghost use Rattle.std.specs.Prelude.{◌≡◌, ◌++◌, IfErr, IfOk, Ok, OnErr, OnOk};
-ghost use Rattle.civil_base.specs.DateTimes.{instant, local_of, offset_of};
-ghost use Rattle.civil_base.specs.Instants.{seconds_of};
-ghost use Rattle.zone_replies.specs.Faults.{behind, IsFaultOf};
+ghost use Rattle.civil_base.specs.{DateTimes.{instant, local_of, offset_of}, Instants.{seconds_of}};
+ghost use Rattle.zone_replies.specs.{Faults.{behind, IsFaultOf}, Instants.{instant_text, is_untold, kind_at, shown_due, IsKindFor}, Objects.{object_text}};
 ghost use Rattle.zone_moments.specs.Written.{people_text};
-ghost use Rattle.zone_replies.specs.Instants.{instant_text, is_untold, kind_at, shown_due, IsKindFor};
-ghost use Rattle.zone_replies.specs.Objects.{object_text};
 
 use crate::fault::ReplyFault;
 use crate::kind::Kind;

@@ -1,8 +1,7 @@
 //! Objects of JSON.
 ghost use Rattle.std.specs.Prelude.{◌≡◌, ◌++◌, ◌<◌, length, take, is_ok, OnErr, OnOk, if◌then◌else◌};
 ghost use Rattle.civil_base.specs.DateTimes.{instant, offset_of};
-ghost use Rattle.zone_replies.specs.Forces.{force_shown};
-ghost use Rattle.zone_replies.specs.Objects.{change_object_text, clock_members, escaped, force_members, front_members, hex_digit, kind_member, members, object_text, quoted};
+ghost use Rattle.zone_replies.specs.{Forces.{force_shown}, Objects.{change_object_text, clock_members, escaped, force_members, front_members, hex_digit, kind_member, members, object_text, quoted}};
 
 use crate::bytes::add_bytes;
 use crate::force::Force;

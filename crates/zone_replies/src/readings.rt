@@ -1,9 +1,7 @@
 //! The replies to `at`, `local` and `convert`.
 ghost use Rattle.std.specs.Prelude.{◌≡◌, ◌<◌, map, length, IfErr, Ok, OnErr, OnOk};
 ghost use Rattle.civil_base.specs.DateTimes.{instant};
-ghost use Rattle.zone_replies.specs.Faults.{behind, IsFaultOf};
-ghost use Rattle.zone_replies.specs.Instants.{at_due, line_due, shown_due};
-ghost use Rattle.zone_replies.specs.Readings.{after_each, convert_due, first_due, local_due};
+ghost use Rattle.zone_replies.specs.{Faults.{behind, IsFaultOf}, Instants.{at_due, line_due, shown_due}, Readings.{after_each, convert_due, first_due, local_due}};
 
 use crate::bytes::add_bytes;
 use crate::fault::ReplyFault;

@@ -1,11 +1,7 @@
 //! The change by which clocks skip a local time.
 ghost use Rattle.std.specs.Prelude.{◌≡◌, ◌++◌, codes, IfErr, IfOk, IfSome, Ok, OnOk, find, is_some};
-ghost use Rattle.civil_base.specs.DateTimes.{instant, offset_of};
-ghost use Rattle.civil_base.specs.Instants.{local_at, nanos_of};
-ghost use Rattle.zone_replies.specs.Faults.{behind, IsFaultOf};
-ghost use Rattle.zone_replies.specs.Instants.{instant_text};
-ghost use Rattle.zone_replies.specs.Objects.{change_object_text};
-ghost use Rattle.zone_replies.specs.declared.kind.Kind.TheVariants.{Gap};
+ghost use Rattle.civil_base.specs.{DateTimes.{instant, offset_of}, Instants.{local_at, nanos_of}};
+ghost use Rattle.zone_replies.specs.{Faults.{behind, IsFaultOf}, Instants.{instant_text}, Objects.{change_object_text}, declared.kind.Kind.TheVariants.{Gap}};
 ghost use Rattle.zone_replies.specs.Skips.{after_of, before_of, from_to_text, gap_due, has_dates, none_text, skipped_text, skipping, skips};
 
 use crate::bytes::add_bytes;

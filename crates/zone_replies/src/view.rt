@@ -1,10 +1,7 @@
 //! Zones that replies can be about.
 ghost use Rattle.std.specs.Prelude.{◌≡◌, ◌-ℤ◌, pos, map, is_some, IfOk, IfSome};
-ghost use Rattle.civil_base.specs.DateTimes.{instant, offset_of};
-ghost use Rattle.civil_base.specs.Instants.{local_at};
-ghost use Rattle.civil_base.specs.Ranges.{is_in_years};
-ghost use Rattle.zone_replies.specs.Forces.{force_shown};
-ghost use Rattle.zone_replies.specs.Views.{ZoneView};
+ghost use Rattle.civil_base.specs.{DateTimes.{instant, offset_of}, Instants.{local_at}, Ranges.{is_in_years}};
+ghost use Rattle.zone_replies.specs.{Forces.{force_shown}, Views.{ZoneView}};
 
 use crate::force::Force;
 use civil_base::{OffsetDateTime, PlainDateTime, UtcOffset};

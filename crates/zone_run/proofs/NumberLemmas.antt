@@ -1,14 +1,7 @@
 -- What `parse` reads of a word is the number that the word is the decimal text of.
-use Rattle.std.proofs.Common.{◌≡◌, ℕ, ℤ, pos, negsuc, ◌^◌, ◌<◌, Bool, true, false, cond, List, Some, None, Result, Ok, Err, refl, ap, arith, nat_le}
-use Rattle.std.specs.Int.{w64}
-use Rattle.std.specs.Prelude.{unsigned_abs, MatchResult}
-use Rattle.std.specs.Fmt.{signed_decimal}
-use Rattle.std.specs.Int.Signed.{mag}
-use Rattle.std.proofs.lemmas.Bool.{and_parts, leb-true}
-use Rattle.std.proofs.lemmas.Fmt.{parse-signed_decimal}
-use Rattle.std.proofs.lemmas.Int.{fits_signed_from_abs}
+use Rattle.std.proofs.{Common.{◌≡◌, ℕ, ℤ, pos, negsuc, ◌^◌, ◌<◌, Bool, true, false, cond, List, Some, None, Result, Ok, Err, refl, ap, arith, nat_le}, lemmas.Bool.{and_parts, leb-true}, lemmas.Fmt.{parse-signed_decimal}, lemmas.Int.{fits_signed_from_abs}}
 use Rattle.std.proofs.lemmas.Slice.Eq.{bytes_eq-Decides}
-use Rattle.std.specs.Str.Parse.{signed_digits_value, ParsesSigned}
+use Rattle.std.specs.{Int.{w64}, Prelude.{unsigned_abs, MatchResult}, Fmt.{signed_decimal}, Int.Signed.{mag}, Str.Parse.{signed_digits_value, ParsesSigned}}
 use Rattle.zone_run.specs.Numbers.{is_number, number_in}
 
 mag_below : (z : ℤ) → unsigned_abs z < 2 ^ 63 → mag z < 2 ^ 63

@@ -1,23 +1,10 @@
 -- What is due, by what reading the source, finding the zone and asking the program found.
-use Rattle.std.proofs.Common.{◌≡◌, ℕ, List, [], ◌∷◌, ◌++◌, Option, Some, None, Ok, Err, refl, sym, ap, subst, ◌∙◌, option_map, MatchOption, IsSome}
-use Rattle.std.specs.Option.{option_map_or, option_or}
-use Rattle.std.specs.Prelude.{IfSome}
-use Rattle.zone_source.specs.FaultLines.{source_line}
-use Rattle.zone_source.specs.Faults.{SourceFault, source_fault}
-use Rattle.zone_source.specs.Told.{told_by_source, TellsOfSource}
-use Rattle.zone_source.specs.Zones.{values_of}
-use Rattle.zone_source.specs.declared.error.SourceError.{SourceError}
+use Rattle.std.{proofs.Common.{◌≡◌, ℕ, List, [], ◌∷◌, ◌++◌, Option, Some, None, Ok, Err, refl, sym, ap, subst, ◌∙◌, option_map, MatchOption, IsSome}, specs.Option.{option_map_or, option_or}, specs.Prelude.{IfSome}}
+use Rattle.zone_source.specs.{FaultLines.{source_line}, Faults.{SourceFault, source_fault}, Told.{told_by_source, TellsOfSource}, Zones.{values_of}, declared.error.SourceError.{SourceError}, Responses.{IsLineOf}}
 use Rattle.zone_source.specs.declared.error.SourceError.TheVariants as source_error
-use Rattle.zone_table.specs.Tables.{IsTableOf}
-use Rattle.zone_table.specs.declared.table.Table.{Table}
-use Rattle.tz_zone.specs.Compiles.{spans_of}
-use Rattle.tz_zone.specs.declared.set.FixedTimespanSet.{FixedTimespanSet}
-use Rattle.zone_run.specs.Causes.{Cause, of_source, of_zone, of_program, zone_cause, named, cause}
-use Rattle.zone_run.specs.FoundLaws.{found_is}
-use Rattle.zone_run.specs.Due.{answer, cause_line, due_bytes, zone_line}
-use Rattle.zone_run.specs.Readings.{Reading, Spans, ZoneCause, found_in, found_in_table}
-use Rattle.zone_source.specs.Responses.{IsLineOf}
-use Rattle.zone_run.specs.Tasks.{Task}
+use Rattle.zone_table.specs.{Tables.{IsTableOf}, declared.table.Table.{Table}}
+use Rattle.tz_zone.specs.{Compiles.{spans_of}, declared.set.FixedTimespanSet.{FixedTimespanSet}}
+use Rattle.zone_run.specs.{Causes.{Cause, of_source, of_zone, of_program, zone_cause, named, cause}, FoundLaws.{found_is}, Due.{answer, cause_line, due_bytes, zone_line}, Readings.{Reading, Spans, ZoneCause, found_in, found_in_table}, Tasks.{Task}}
 
 module _ (read : Reading Spans) (label : List ℕ) (task : Task) (source bytes : List ℕ) where
   -- there is a cause, and its line is due

@@ -1,15 +1,8 @@
 -- Which words ask what, which cause comes first, and the lines of causes, at worked rows.
-use Rattle.std.proofs.Common.{◌≡◌, ℕ, List, [], ◌∷◌, map, Option, Some, None, option_map, Ok, Err, refl, ℤ, pos, negsuc}
-use Rattle.std.specs.Prelude.{codes}
-use Rattle.std.specs.Fmt.{digits}
+use Rattle.std.{proofs.Common.{◌≡◌, ℕ, List, [], ◌∷◌, map, Option, Some, None, option_map, Ok, Err, refl, ℤ, pos, negsuc}, specs.Prelude.{codes}, specs.Fmt.{digits}}
 use Rattle.zone_source.specs.Faults.{not_text}
-use Rattle.zone_spans.specs.Schedules.{totals_of}
-use Rattle.zone_spans.specs.declared.fault.SpanFault.TheVariants.{UnknownRuleset, MissingUntil, YearRange, RuleYears, DayRange, NoStandardSpan}
-use Rattle.zone_run.specs.Asked.{Asked}
-use Rattle.zone_run.specs.Causes.{of_source, of_zone, of_program, zone_cause}
-use Rattle.zone_run.specs.Due.{answer, cause_line}
-use Rattle.zone_run.specs.Numbers.{number_in}
-use Rattle.zone_run.specs.Readings.{Found, Spans, bad_schedule, found_under, given_of, offset_range, rules_end, unknown_zone}
+use Rattle.zone_spans.specs.{Schedules.{totals_of}, declared.fault.SpanFault.TheVariants.{UnknownRuleset, MissingUntil, YearRange, RuleYears, DayRange, NoStandardSpan}}
+use Rattle.zone_run.specs.{Asked.{Asked}, Causes.{of_source, of_zone, of_program, zone_cause}, Due.{answer, cause_line}, Numbers.{number_in}, Readings.{Found, Spans, bad_schedule, found_under, given_of, offset_range, rules_end, unknown_zone}}
 use Rattle.zone_run.specs.Tasks.{Task, task_at, task_in}
 
 -- programs without words of their own: one refuses each zone, the other answers its name

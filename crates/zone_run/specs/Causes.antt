@@ -1,11 +1,9 @@
 -- Why a run over a source has no answer.
-use Rattle.std.specs.Prelude.{ℕ, List, Option, Some, Ok, Err, option_map}
-use Rattle.std.specs.Option.{option_or}
+use Rattle.std.specs.{Prelude.{ℕ, List, Option, Some, Ok, Err, option_map}, Option.{option_or}}
 use Rattle.zone_source.specs.Faults.{SourceFault, source_fault}
 use Rattle.zone_spans.specs.declared.span.FixedTimespanSet as spans
 use Rattle.tz_zone.specs.declared.set.FixedTimespanSet.{FixedTimespanSet}
-use Rattle.zone_run.specs.Readings.{Found, Reading, Spans, ZoneCause, found_in}
-use Rattle.zone_run.specs.Tasks.{Task}
+use Rattle.zone_run.specs.{Readings.{Found, Reading, Spans, ZoneCause, found_in}, Tasks.{Task}}
 
 -- the source has a fault; the zone can't be asked; the program refuses it
 pub data Cause : Type 0 where

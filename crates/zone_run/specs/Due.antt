@@ -1,11 +1,8 @@
 -- The bytes that a run over a source is to write.
-use Rattle.std.specs.Prelude.{ℕ, List, [], ◌∷◌, ◌++◌, Ok, Err, codes}
-use Rattle.std.specs.Option.{option_map_or}
+use Rattle.std.specs.{Prelude.{ℕ, List, [], ◌∷◌, ◌++◌, Ok, Err, codes}, Option.{option_map_or}}
 use Rattle.zone_source.specs.FaultLines.{source_line}
 use Rattle.zone_spans.specs.FaultNames.{fault_name}
-use Rattle.zone_run.specs.Causes.{Cause, of_source, of_zone, of_program, cause, named}
-use Rattle.zone_run.specs.Readings.{Found, Reading, Spans, ZoneCause, unknown_zone, bad_schedule, offset_range, rules_end, found_in}
-use Rattle.zone_run.specs.Tasks.{Task}
+use Rattle.zone_run.specs.{Causes.{Cause, of_source, of_zone, of_program, cause, named}, Readings.{Found, Reading, Spans, ZoneCause, unknown_zone, bad_schedule, offset_range, rules_end, found_in}, Tasks.{Task}}
 
 -- `list: unknown zone`: the program's label, and why
 abbrev pub labelled : List ℕ → List ℕ → List ℕ → List ℕ

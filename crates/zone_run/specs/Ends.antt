@@ -1,11 +1,7 @@
 -- How a run ends of a program over one zone.
 use Rattle.std.specs.Prelude.{ℕ, List, Option}
-use Rattle.zone_source.specs.Runs.{Seen, Work, EndsOf}
-use Rattle.zone_source.specs.declared.running.Status.{Status}
-use Rattle.zone_run.specs.Causes.{Cause, cause}
-use Rattle.zone_run.specs.Due.{due_bytes}
-use Rattle.zone_run.specs.Readings.{Reading, Spans, to_2099}
-use Rattle.zone_run.specs.Tasks.{Task}
+use Rattle.zone_source.specs.{Runs.{Seen, Work, EndsOf}, declared.running.Status.{Status}}
+use Rattle.zone_run.specs.{Causes.{Cause, cause}, Due.{due_bytes}, Readings.{Reading, Spans, to_2099}, Tasks.{Task}}
 
 -- what the program of this label does with a task where zones are read in this way
 abbrev pub work : Reading Spans → List ℕ → Work Task Cause

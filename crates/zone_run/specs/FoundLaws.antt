@@ -1,25 +1,12 @@
 -- A name finds in a table what it finds in the source that the table is of; and what `compile_zone` says of a zone to 2099.
-use Rattle.std.proofs.Common.{◌≡◌, ℕ, cond, List, Option, Some, None, Result, Ok, Err, refl, ap, ◌∙◌, option_map, reverse}
-use Rattle.std.proofs.lemmas.Option.{none-some}
-use Rattle.std.specs.Prelude.{IsTrue, unwrap_or}
+use Rattle.std.{proofs.Common.{◌≡◌, ℕ, cond, List, Option, Some, None, Result, Ok, Err, refl, ap, ◌∙◌, option_map, reverse}, proofs.lemmas.Option.{none-some}, specs.Prelude.{IsTrue, unwrap_or}}
 use Rattle.zone_source.specs.Zones.{values_of, zone_in, rules_in}
-use Rattle.zone_spans.specs.Compiled.{compiled}
-use Rattle.zone_spans.specs.Lines.{Rulesets}
-use Rattle.zone_spans.specs.Schedules.{is_in_offset_range, totals_of}
-use Rattle.zone_spans.specs.declared.fault.SpanFault.{SpanFault}
+use Rattle.zone_spans.specs.{Compiled.{compiled}, Lines.{Rulesets}, Schedules.{is_in_offset_range, totals_of}, declared.fault.SpanFault.{SpanFault}}
 use Rattle.zone_spans.specs.declared.span.FixedTimespanSet as spans
-use Rattle.zone_table.specs.Resolved.{resolved_in-IsTableOf}
-use Rattle.zone_table.specs.Tables.{IsTableOf}
-use Rattle.zone_table.specs.declared.table.Table.{Table}
-use Rattle.zone_table.specs.declared.zone.ZoneInfo.{ZoneInfo}
-use Rattle.tz_zone.specs.Compiles.{IsZoneFault, spans_of}
-use Rattle.tz_zone.specs.Sets.{schedule_of}
-use Rattle.tz_zone.specs.declared.compile.ZoneFault.{ZoneFault}
+use Rattle.zone_table.specs.{Resolved.{resolved_in-IsTableOf}, Tables.{IsTableOf}, declared.table.Table.{Table}, declared.zone.ZoneInfo.{ZoneInfo}}
+use Rattle.tz_zone.specs.{Compiles.{IsZoneFault, spans_of}, Sets.{schedule_of}, declared.compile.ZoneFault.{ZoneFault}, declared.set.FixedTimespanSet.{FixedTimespanSet}}
 use Rattle.tz_zone.specs.declared.compile.ZoneFault.TheVariants as zone
-use Rattle.tz_zone.specs.declared.set.FixedTimespanSet.{FixedTimespanSet}
-use Rattle.zone_run.specs.Readings.{Reading, found_in, found_in_table, found_under, given_of, given_to_2099, offset_range, unknown_zone}
-use Rattle.zone_run.specs.Responses.{TellsCause}
-use Rattle.zone_run.specs.declared.found.FindFault.TheVariants.{Zone}
+use Rattle.zone_run.specs.{Readings.{Reading, found_in, found_in_table, found_under, given_of, given_to_2099, offset_range, unknown_zone}, Responses.{TellsCause}, declared.found.FindFault.TheVariants.{Zone}}
 
 pub found_is : {X : Type 0} (read : Reading X) (table : Table) (source : List ℕ) → IsTableOf table (values_of source)
     → found_in_table read table ≡ found_in read source

@@ -1,7 +1,5 @@
 -- The whole numbers among words.
-use Rattle.std.specs.Prelude.{ℕ, Bool, ◌&&◌, List, Option, Some, None, ℤ, bytes_eq, nat_le, unsigned_abs, if◌then◌else◌}
-use Rattle.std.specs.Fmt.{signed_decimal}
-use Rattle.std.specs.Str.Parse.{signed_digits_value}
+use Rattle.std.specs.{Prelude.{ℕ, Bool, ◌&&◌, List, Option, Some, None, ℤ, bytes_eq, nat_le, unsigned_abs, if◌then◌else◌}, Fmt.{signed_decimal}, Str.Parse.{signed_digits_value}}
 
 -- the word is the decimal text of the number, so it has no plus, no leading zero but for `0` itself, and isn't `-0`; and the
 -- number is at most so much in size

@@ -1,15 +1,8 @@
 -- What a zone's name finds: what is given of the spans of its lines, or why the zone can't be asked.
-use Rattle.std.specs.Prelude.{ℕ, List, Option, Some, None, Result, Ok, Err, if◌then◌else◌}
-use Rattle.std.specs.FinMap.{get}
+use Rattle.std.specs.{Prelude.{ℕ, List, Option, Some, None, Result, Ok, Err, if◌then◌else◌}, FinMap.{get}}
 use Rattle.zone_source.specs.Zones.{zone_in, rules_in}
-use Rattle.zone_spans.specs.Compiled.{compiled}
-use Rattle.zone_spans.specs.Lines.{Rulesets}
-use Rattle.zone_spans.specs.Schedules.{totals_of, is_in_offset_range}
-use Rattle.zone_spans.specs.declared.fault.SpanFault.{SpanFault}
-use Rattle.zone_spans.specs.declared.span.FixedTimespanSet.{FixedTimespanSet}
-use Rattle.zone_table.specs.Resolved.{resolved_in}
-use Rattle.zone_table.specs.declared.table.Table.{Table}
-use Rattle.zone_table.specs.declared.zone.ZoneInfo.{ZoneInfo}
+use Rattle.zone_spans.specs.{Compiled.{compiled}, Lines.{Rulesets}, Schedules.{totals_of, is_in_offset_range}, declared.fault.SpanFault.{SpanFault}, declared.span.FixedTimespanSet.{FixedTimespanSet}}
+use Rattle.zone_table.specs.{Resolved.{resolved_in}, declared.table.Table.{Table}, declared.zone.ZoneInfo.{ZoneInfo}}
 
 -- no zone has the name; the zone has no schedule; it has an offset of 26 hours or more; its rules end
 pub data ZoneCause : Type 0 where

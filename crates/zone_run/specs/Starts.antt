@@ -1,11 +1,7 @@
 -- How a program over one zone ends that was started.
 use Rattle.std.specs.Prelude.{ℕ, List, Option}
-use Rattle.zone_run.specs.Asked.{Asked}
-use Rattle.zone_run.specs.Ends.{EndsWith}
-use Rattle.zone_run.specs.Readings.{Reading, Spans, to_2099}
-use Rattle.zone_run.specs.Tasks.{task_of}
-use Rattle.zone_source.specs.Starts.{Run, Starts, over_file}
-use Rattle.zone_source.specs.declared.starting.Started.{Started}
+use Rattle.zone_run.specs.{Asked.{Asked}, Ends.{EndsWith}, Readings.{Reading, Spans, to_2099}, Tasks.{task_of}}
+use Rattle.zone_source.specs.{Starts.{Run, Starts, over_file}, declared.starting.Started.{Started}}
 
 -- how a run ends of the program of this label, whose words after FILE and NAME are in this form
 abbrev pub zone_run : Reading Spans → List ℕ → (List (List ℕ) → Option Asked) → Run

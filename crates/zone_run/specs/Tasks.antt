@@ -1,6 +1,5 @@
 -- What the words of a run ask.
-use Rattle.std.specs.Prelude.{ℕ, List, [], ◌∷◌, map, String, string_bytes, Option, None, option_map}
-use Rattle.std.specs.declared.alloc.Global.{Global}
+use Rattle.std.specs.{Prelude.{ℕ, List, [], ◌∷◌, map, String, string_bytes, Option, None, option_map}, declared.alloc.Global.{Global}}
 use Rattle.zone_run.specs.Asked.{Asked}
 
 -- the name of a file, the name of a zone, and what is asked of the zone

@@ -1,11 +1,8 @@
 //! Zones as programs ask them.
 ghost use Rattle.std.specs.Prelude.{◌≡◌, IfErr, IfOk, Ok};
 ghost use Rattle.zone_table.specs.BoundedTables.{IsBoundedTable};
-ghost use Rattle.tz_zone.specs.Compiles.{spans_of};
-ghost use Rattle.tz_zone.specs.Sets.{IsAccepted, schedule_of};
-ghost use Rattle.tz_zone.specs.declared.set.FixedTimespanSet.{FixedTimespanSet};
-ghost use Rattle.zone_run.specs.Readings.{Reading, Spans, found_in_table};
-ghost use Rattle.zone_run.specs.Responses.{TellsCause};
+ghost use Rattle.tz_zone.specs.{Compiles.{spans_of}, Sets.{IsAccepted, schedule_of}, declared.set.FixedTimespanSet.{FixedTimespanSet}};
+ghost use Rattle.zone_run.specs.{Readings.{Reading, Spans, found_in_table}, Responses.{TellsCause}};
 
 use std::alloc::Global;
 use tz_lookup::{FixedTimespanSet, ZoneFault, compile_zone};

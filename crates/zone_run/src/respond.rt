@@ -1,9 +1,6 @@
 //! The bytes that a run over a source is to write.
 ghost use Rattle.std.specs.Prelude.{◌≤◌, length, IfOk};
-ghost use Rattle.zone_run.specs.Causes.{cause};
-ghost use Rattle.zone_run.specs.Due.{due_bytes, zone_line};
-ghost use Rattle.zone_run.specs.Responses.{cause_told};
-ghost use Rattle.zone_run.specs.Tasks.{task_at};
+ghost use Rattle.zone_run.specs.{Causes.{cause}, Due.{due_bytes, zone_line}, Responses.{cause_told}, Tasks.{task_at}};
 ghost use Rattle.zone_source.specs.Responses.{IsLineOf, IsResponse};
 
 use crate::found::{FindFault, FoundZone};

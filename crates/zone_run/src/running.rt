@@ -1,7 +1,6 @@
 //! The run of a program.
 ghost use Rattle.std.specs.Option.{ForSome};
-ghost use Rattle.zone_run.specs.Ends.{EndsWith};
-ghost use Rattle.zone_run.specs.Tasks.{task_of};
+ghost use Rattle.zone_run.specs.{Ends.{EndsWith}, Tasks.{task_of}};
 ghost use Rattle.zone_source.specs.Runs.{seen};
 
 use crate::program::ZoneProgram;

@@ -17,9 +17,7 @@ pub(crate) struct Task<'w, P> {
 }
 
 impl<P: ZoneProgram> FileTask for Task<'_, P> {
-    ghost use Rattle.zone_run.specs.Causes.{Cause};
-    ghost use Rattle.zone_run.specs.Ends.{work};
-    ghost use Rattle.zone_run.specs.Tasks.{Task as ZoneTask, task_at};
+    ghost use Rattle.zone_run.specs.{Causes.{Cause}, Ends.{work}, Tasks.{Task as ZoneTask, task_at}};
 
     ghost Asked = { ZoneTask };
 

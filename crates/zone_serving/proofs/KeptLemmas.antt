@@ -1,12 +1,7 @@
 -- What is kept once a zone was put in.
 use Rattle.std.proofs.Common.{◌≡◌, ℕ, Bool, true, false, ◌||◌, List, Some, cond, refl, sym, ap, subst, ◌∙◌}
-use Rattle.std.specs.Prelude.{IfSome, OnErr, OnOk, Result, Ok, Err, is_some}
-use Rattle.std.specs.declared.alloc.AllocError.{AllocError}
-use Rattle.std.specs.Cmp.Lexicographic.{bytes_decides}
-use Rattle.std.specs.FinMap.{FinMap, contains_key, empty, get, get-empty, insert}
-use Rattle.std.specs.Str.{bytes_eq}
-use Rattle.basics.specs.Keyed.{text_cmp}
-use Rattle.basics.specs.KeyedLaws.{get-inserted}
+use Rattle.std.specs.{Prelude.{IfSome, OnErr, OnOk, Result, Ok, Err, is_some}, declared.alloc.AllocError.{AllocError}, Cmp.Lexicographic.{bytes_decides}, FinMap.{FinMap, contains_key, empty, get, get-empty, insert}, Str.{bytes_eq}}
+use Rattle.basics.specs.{Keyed.{text_cmp}, KeyedLaws.{get-inserted}}
 use Rattle.zone_command.specs.Offsets.{offset_in}
 use Rattle.zone_serving.specs.Kept.{is_kept}
 

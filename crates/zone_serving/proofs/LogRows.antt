@@ -1,6 +1,5 @@
 -- Fields of logs, and times that can't be told.
-use Rattle.std.proofs.Common.{◌≡◌, refl, map, [], ◌∷◌, Some, None, Ok, Err}
-use Rattle.std.specs.Prelude.{codes}
+use Rattle.std.{proofs.Common.{◌≡◌, refl, map, [], ◌∷◌, Some, None, Ok, Err}, specs.Prelude.{codes}}
 use Rattle.zone_moments.specs.declared.answer_form.AnswerForm.TheVariants.{People, Rfc3339, Epoch, Json}
 use Rattle.zone_replies.specs.declared.fault.ReplyFault.TheVariants.{OutOfYears, Untold}
 use Rattle.zone_serving.specs.LogTexts.{field_of, log_form, text_of}

@@ -1,9 +1,7 @@
 -- By UTC a local time is its instant.
 use Rattle.std.proofs.Common.{◌≡◌, ℤ, pos, ◌-ℤ◌, ◌*ℤ◌, ap, ◌∙◌, arith}
 use Rattle.basics.specs.SignedLaws.{signed}
-use Rattle.civil_base.specs.DateTimes.{instant, local_of, offset_of}
-use Rattle.civil_base.specs.Instants.{instant_at}
-use Rattle.civil_base.specs.declared.offset_date_time.OffsetDateTime.{OffsetDateTime}
+use Rattle.civil_base.specs.{DateTimes.{instant, local_of, offset_of}, Instants.{instant_at}, declared.offset_date_time.OffsetDateTime.{OffsetDateTime}}
 
 no_offset : (x : ℤ) → x -ℤ pos 1000000000 *ℤ pos 0 ≡ x
 no_offset x = omega (arith, signed)

@@ -1,15 +1,8 @@
 -- Lines that are text, and lines that are none.
-use Rattle.std.proofs.Common.{◌≡◌, ℕ, true, false, List, cond, refl, sym, ap, subst, ◌∙◌}
-use Rattle.std.specs.Prelude.{Err, codes}
-use Rattle.std.specs.Str.{is_utf8, IsUtf8}
-use Rattle.std.proofs.lemmas.Str.{IsUtf8-from_is_utf8, is_utf8-from_IsUtf8}
-use Rattle.zone_command.specs.Answers.{Answer, IsAnswer}
-use Rattle.zone_command.specs.Refusals.{IsTold}
-use Rattle.zone_command.specs.declared.source.Refusal.{Refusal}
-use Rattle.zone_command.specs.declared.source.Refusal.TheVariants.{Why, NoMemory}
+use Rattle.std.{proofs.Common.{◌≡◌, ℕ, true, false, List, cond, refl, sym, ap, subst, ◌∙◌}, specs.Prelude.{Err, codes}, specs.Str.{is_utf8, IsUtf8}, proofs.lemmas.Str.{IsUtf8-from_is_utf8, is_utf8-from_IsUtf8}}
+use Rattle.zone_command.specs.{Answers.{Answer, IsAnswer}, Refusals.{IsTold}, declared.source.Refusal.{Refusal}, declared.source.Refusal.TheVariants.{Why, NoMemory}}
 use Rattle.zone_answers.specs.Requests.{request_of as plain_of}
-use Rattle.zone_serving.specs.Plain.{asked_answer, plain_answer}
-use Rattle.zone_serving.specs.Requests.{request_in, request_of, words_of}
+use Rattle.zone_serving.specs.{Plain.{asked_answer, plain_answer}, Requests.{request_in, request_of, words_of}}
 use Rattle.zone_table.specs.declared.table.Table.{Table}
 
 -- what is made of a text, and what in place of it of bytes that are none

@@ -1,31 +1,22 @@
 -- What is told of sources, in words: each cause, and which line it is told of.
-use Rattle.std.proofs.Common.{◌≡◌, refl, inl, inr, map, ℕ, Bool, true, false, List, [], ◌∷◌, ◌++◌}
-use Rattle.std.specs.Prelude.{codes}
-use Rattle.std.specs.Fmt.{digits}
-use Rattle.std.specs.Prelude.{String}
-use Rattle.std.specs.declared.alloc.Global.{Global}
+use Rattle.std.{proofs.Common.{◌≡◌, refl, inl, inr, map, ℕ, Bool, true, false, List, [], ◌∷◌, ◌++◌}, specs.Prelude.{codes}, specs.Fmt.{digits}, specs.Prelude.{String}, specs.declared.alloc.Global.{Global}}
 use Rattle.sefunjaro.specs.declared.any_source.AnySourceFault.{AnySourceFault}
 use Rattle.sefunjaro.specs.declared.any_source.AnySourceFault.TheVariants as source
 use Rattle.zone_plain_lines.specs.declared.cause.PlainCause.{PlainCause}
 use Rattle.zone_plain_lines.specs.declared.cause.PlainCause.TheVariants as plain
-use Rattle.zone_serving.specs.Causes.{cause_words, form_words, join_words, kind_words, line_words}
-use Rattle.zone_serving.specs.Sources.{fault_words, is_compiled, HasFault, IsUnread}
-use Rattle.zone_serving.specs.Views.{schedule_words}
-use Rattle.zone_serving.specs.Wholes.{changes_words, file_words, tail_words, why_words}
-use Rattle.zone_source.specs.declared.error.BuildKind.{BuildKind}
+use Rattle.zone_serving.specs.{Causes.{cause_words, form_words, join_words, kind_words, line_words}, Sources.{fault_words, is_compiled, HasFault, IsUnread}, Views.{schedule_words}, Wholes.{changes_words, file_words, tail_words, why_words}}
+use Rattle.zone_source.specs.declared.error.{BuildKind.{BuildKind}, SourceError.{SourceError}}
 use Rattle.zone_source.specs.declared.error.BuildKind.TheVariants as join
-use Rattle.zone_source.specs.declared.error.SourceError.{SourceError}
 use Rattle.zone_source.specs.declared.error.SourceError.TheVariants as error
 use Rattle.zone_spans.specs.declared.fault.SpanFault.{SpanFault}
 use Rattle.zone_spans.specs.declared.fault.SpanFault.TheVariants as span
-use Rattle.zone_tzif.specs.declared.outcome.EverTailFault.{EverTailFault}
+use Rattle.zone_tzif.specs.declared.{outcome.EverTailFault.{EverTailFault}, file.FileFault.{FileFault}}
 use Rattle.zone_tzif.specs.declared.outcome.EverTailFault.TheVariants as tail
+use Rattle.zone_tzif.specs.declared.ever.EverFileFault.TheVariants as file
+use Rattle.zone_tzif.specs.declared.file.FileFault.TheVariants as changes
 use Rattle.zone_tree.specs.declared.refusal.Why.{Why}
 use Rattle.zone_tree.specs.declared.refusal.Why.TheVariants as why
 use Rattle.zone_tzif_core.specs.declared.values.WriteFault.TheVariants as write
-use Rattle.zone_tzif.specs.declared.ever.EverFileFault.TheVariants as file
-use Rattle.zone_tzif.specs.declared.file.FileFault.{FileFault}
-use Rattle.zone_tzif.specs.declared.file.FileFault.TheVariants as changes
 use Rattle.zone_values.specs.declared.fault.FaultKind.{FaultKind}
 use Rattle.zone_values.specs.declared.fault.FaultKind.TheVariants as kind
 use Rattle.zone_values.specs.declared.error.Error.TheVariants as line

@@ -1,43 +1,17 @@
 -- Requests about Berlin in 2024, as Python's `zoneinfo` has its times, and requests that are faults.
 use Rattle.std.proofs.Common.{◌≡◌, Some, None, refl, ap, ◌∙◌, arith, Bool, true, false, not, lit≤, ◌++◌, ◌∷◌, [], List, ℕ, ℤ, map, pos, filter, int_le, int_lt, ◌&&◌, ◌+ℤ◌, ◌-ℤ◌, ◌*ℤ◌, cond, Ok, Err}
-use Rattle.std.specs.Prelude.{bytes_eq, codes}
-use Rattle.std.specs.Fmt.{digits}
-use Rattle.std.specs.Ordering.{int_eq}
-use Rattle.std.specs.Str.{chars, is_utf8}
+use Rattle.std.specs.{Prelude.{bytes_eq, codes}, Fmt.{digits}, Ordering.{int_eq}, Str.{chars, is_utf8}}
 use lib.Utf8.{encode}
-use Rattle.basics.specs.DateLaws.{year_of-day}
-use Rattle.basics.specs.Dates.{year_of}
-use Rattle.basics.specs.Days.{is_leap, days_in_year, days_in_month, days_after_zero, days_before_zero, year_start, days_through, days_into_year, day, IsCountedYear}
-use Rattle.basics.specs.SignedLaws.{signed}
-use Rattle.civil_base.specs.Clock.{time_at}
-use Rattle.civil_base.specs.Instants.{local_at, seconds_of}
-use Rattle.civil_base.specs.Layout.{day_part, time_part}
-use Rattle.civil_base.specs.Ranges.{is_in_years}
-use Rattle.basics.specs.Numbers.{value_in}
-use Rattle.zone_command.specs.Answers.{Answer, told}
-use Rattle.zone_command.specs.Named.{Found}
-use Rattle.zone_command.specs.Offsets.{offset_in, size_in, two_in}
-use Rattle.zone_moments.specs.Numbers.{moment, seconds_east, counted}
-use Rattle.zone_moments.specs.Pieces.{digit_at, two_at, four_at, date_at, minute_at, second_at, offset_at}
+use Rattle.basics.specs.{DateLaws.{year_of-day}, Dates.{year_of}, Days.{is_leap, days_in_year, days_in_month, days_after_zero, days_before_zero, year_start, days_through, days_into_year, day, IsCountedYear}, SignedLaws.{signed}, Numbers.{value_in}}
+use Rattle.civil_base.specs.{Clock.{time_at}, Instants.{local_at, seconds_of}, Layout.{day_part, time_part}, Ranges.{is_in_years}}
+use Rattle.zone_command.specs.{Answers.{Answer, told}, Named.{Found}, Offsets.{offset_in, size_in, two_in}}
+use Rattle.zone_moments.specs.{Numbers.{moment, seconds_east, counted}, Pieces.{digit_at, two_at, four_at, date_at, minute_at, second_at, offset_at}}
 use Rattle.zone_moments.specs.Readings.{digits_at, fraction_at, front_at, seconds_at, moment_in, local_in, in_years, zoned_at, zoned_in, size_at, count_at, count_in, counted_in, written_in, instant_in, asked_in}
-use Rattle.zone_moments.specs.Written.{epoch_text, fraction_text, offset_shown, people_text, rfc3339_text}
-use Rattle.zone_moments.specs.declared.answer_form.AnswerForm.{AnswerForm}
-use Rattle.zone_moments.specs.declared.answer_form.AnswerForm.TheVariants.{People, Rfc3339, Epoch, Json}
-use Rattle.zone_replies.specs.Faults.{Due, behind, each_due, followed}
-use Rattle.zone_replies.specs.Instants.{instant_text, is_untold, shown_due}
-use Rattle.zone_replies.specs.Readings.{convert_due, local_due}
-use Rattle.zone_replies.specs.Skips.{from_to_text, skipping}
-use Rattle.zone_replies.specs.Views.{InForce, ZoneView}
-use Rattle.zone_replies.specs.declared.fault.ReplyFault.TheVariants.{OutOfYears, Untold}
-use Rattle.zone_replies.specs.declared.kind.Kind.{Kind}
-use Rattle.zone_replies.specs.declared.kind.Kind.TheVariants.{Fold, One}
-use Rattle.zone_serving.specs.Requests.{request_in, request_of, words_of}
-use Rattle.zone_serving.specs.Streams.{answer_for, between, closing, is_fault, opening, response_of, stream_replies}
-use Rattle.zone_serving.specs.LogTexts.{log_text, text_of}
-use Rattle.zone_words.specs.Arguments.{task_in}
-use Rattle.zone_words.specs.FaultLines.{fault_line}
-use Rattle.zone_words.specs.Sorted.{put_any, put_option, put_word}
-use Rattle.zone_words.specs.Words.{words_in}
+use Rattle.zone_moments.specs.{Written.{epoch_text, fraction_text, offset_shown, people_text, rfc3339_text}, declared.answer_form.AnswerForm.{AnswerForm}, declared.answer_form.AnswerForm.TheVariants.{People, Rfc3339, Epoch, Json}}
+use Rattle.zone_replies.specs.{Faults.{Due, behind, each_due, followed}, Instants.{instant_text, is_untold, shown_due}, Readings.{convert_due, local_due}, Skips.{from_to_text, skipping}, Views.{InForce, ZoneView}}
+use Rattle.zone_replies.specs.declared.{fault.ReplyFault.TheVariants.{OutOfYears, Untold}, kind.Kind.{Kind}, kind.Kind.TheVariants.{Fold, One}}
+use Rattle.zone_serving.specs.{Requests.{request_in, request_of, words_of}, Streams.{answer_for, between, closing, is_fault, opening, response_of, stream_replies}, LogTexts.{log_text, text_of}}
+use Rattle.zone_words.specs.{Arguments.{task_in}, FaultLines.{fault_line}, Sorted.{put_any, put_option, put_word}, Words.{words_in}}
 
 winter : InForce
 winter = record { offset = pos 3600; saving = pos 0; name = codes "CET" }

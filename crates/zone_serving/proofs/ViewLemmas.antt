@@ -1,29 +1,13 @@
 -- What a name finds, by what is seen of the zone that is opened.
-use Rattle.std.proofs.Common.{◌≡◌, ℕ, List, Bool, Option, Some, None, option_map, Result, Ok, Err, true, false, refl, sym, ap, ◌∙◌, if◌then◌else◌, IsTrue, inl, inr}
-use Rattle.std.specs.Prelude.{IfSome, ◌⊎◌}
-use Rattle.std.specs.FinMap.{get}
-use Rattle.sefunjaro.specs.Replies.{reply_view}
-use Rattle.sefunjaro.specs.Zones.{GoesOnAs, IsOpened, ever_in, set_in}
-use Rattle.sefunjaro.specs.declared.zone.OpenZone.{OpenZone}
-use Rattle.tz_ever.specs.EverShown.{ever_seen}
-use Rattle.tz_ever.specs.ForEver.{ever_years}
-use Rattle.tz_ever.specs.Opens.{DoesNotGoOn, IsFoundForEver, IsTooFarLater}
-use Rattle.tz_ever.specs.declared.ever_set.EverSet.{EverSet}
-use Rattle.tz_zone.specs.Compiles.{IsTooFar, IsZoneFault, compiled_in, compiled_in_over, spans_of}
-use Rattle.tz_zone.specs.Sets.{IsAccepted, schedule_of}
-use Rattle.tz_zone.specs.declared.compile.ZoneFault.{ZoneFault}
+use Rattle.std.{proofs.Common.{◌≡◌, ℕ, List, Bool, Option, Some, None, option_map, Result, Ok, Err, true, false, refl, sym, ap, ◌∙◌, if◌then◌else◌, IsTrue, inl, inr}, specs.Prelude.{IfSome, ◌⊎◌}, specs.FinMap.{get}}
+use Rattle.sefunjaro.specs.{Replies.{reply_view}, Zones.{GoesOnAs, IsOpened, ever_in, set_in}, declared.zone.OpenZone.{OpenZone}}
+use Rattle.tz_ever.specs.{EverShown.{ever_seen}, ForEver.{ever_years}, Opens.{DoesNotGoOn, IsFoundForEver, IsTooFarLater}, declared.ever_set.EverSet.{EverSet}}
+use Rattle.tz_zone.specs.{Compiles.{IsTooFar, IsZoneFault, compiled_in, compiled_in_over, spans_of}, Sets.{IsAccepted, schedule_of}, declared.compile.ZoneFault.{ZoneFault}, declared.set.FixedTimespanSet.{FixedTimespanSet}}
 use Rattle.tz_zone.specs.declared.compile.ZoneFault.TheVariants as zone_fault
-use Rattle.tz_zone.specs.declared.set.FixedTimespanSet.{FixedTimespanSet}
 use Rattle.zone_replies.specs.Views.{ZoneView}
-use Rattle.zone_spans.specs.Compiled.{compiled, compiled_over}
-use Rattle.zone_spans.specs.GoesOn.{goes_on}
-use Rattle.zone_spans.specs.Lines.{Rulesets, zone_lines}
-use Rattle.zone_spans.specs.Schedules.{is_in_offset_range, totals_of}
-use Rattle.zone_spans.specs.declared.fault.SpanFault.{SpanFault}
+use Rattle.zone_spans.specs.{Compiled.{compiled, compiled_over}, GoesOn.{goes_on}, Lines.{Rulesets, zone_lines}, Schedules.{is_in_offset_range, totals_of}, declared.fault.SpanFault.{SpanFault}}
 use Rattle.zone_spans.specs.declared.span.FixedTimespanSet as spans
-use Rattle.zone_table.specs.Resolved.{resolved_in}
-use Rattle.zone_table.specs.declared.table.Table.{Table}
-use Rattle.zone_table.specs.declared.zone.ZoneInfo.{ZoneInfo}
+use Rattle.zone_table.specs.{Resolved.{resolved_in}, declared.table.Table.{Table}, declared.zone.ZoneInfo.{ZoneInfo}}
 use Rattle.zone_serving.specs.Views.{ever_by, ever_found, ever_set, found_in, if_in_range, named_set, range_words, schedule_words, unknown_words, view_by, view_in, view_of, IsToldAs}
 
 if_true : {A : Type 0} (b : Bool) (x y : A) → b ≡ true → (if b then x else y) ≡ x

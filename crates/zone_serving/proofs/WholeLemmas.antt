@@ -1,13 +1,8 @@
 -- What is given of a zone that goes on.
-use Rattle.std.proofs.Common.{◌≡◌, ℕ, List, Some, Ok, Err, inr}
-use Rattle.std.specs.Prelude.{Result, Vec}
-use Rattle.std.specs.declared.alloc.Global.{Global}
+use Rattle.std.{proofs.Common.{◌≡◌, ℕ, List, Some, Ok, Err, inr}, specs.Prelude.{Result, Vec}, specs.declared.alloc.Global.{Global}}
 use Rattle.tz_zone.specs.declared.set.FixedTimespanSet.{FixedTimespanSet}
-use Rattle.zone_command.specs.Answers.{Answer, IsGiven}
-use Rattle.zone_command.specs.declared.source.Refusal.{Refusal}
-use Rattle.zone_command.specs.declared.source.Refusal.TheVariants.{Why, NoMemory}
-use Rattle.zone_serving.specs.Views.{ever_found}
-use Rattle.zone_serving.specs.Wholes.{IsWhole}
+use Rattle.zone_command.specs.{Answers.{Answer, IsGiven}, declared.source.Refusal.{Refusal}, declared.source.Refusal.TheVariants.{Why, NoMemory}}
+use Rattle.zone_serving.specs.{Views.{ever_found}, Wholes.{IsWhole}}
 use Rattle.zone_table.specs.declared.table.Table.{Table}
 
 pub given : (Says : FixedTimespanSet → Answer → Type 0) (table : Table) (name : List ℕ) (set : FixedTimespanSet) (r : Result (Vec ℕ Global) Refusal)

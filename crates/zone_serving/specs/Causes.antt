@@ -1,14 +1,11 @@
 -- What is told of a line of a source, in words.
-use Rattle.std.specs.Prelude.{ℕ, Bool, true, false, List, ◌++◌, codes, decimal}
-use Rattle.std.specs.Option.{option_map_or}
+use Rattle.std.specs.{Prelude.{ℕ, Bool, true, false, List, ◌++◌, codes, decimal}, Option.{option_map_or}}
 use Rattle.zone_plain_lines.specs.declared.cause.PlainCause.{PlainCause}
 use Rattle.zone_plain_lines.specs.declared.cause.PlainCause.TheVariants as plain
-use Rattle.zone_source.specs.declared.error.BuildKind.{BuildKind}
+use Rattle.zone_source.specs.declared.error.{BuildKind.{BuildKind}, SourceError.{SourceError}}
 use Rattle.zone_source.specs.declared.error.BuildKind.TheVariants as join
-use Rattle.zone_source.specs.declared.error.SourceError.{SourceError}
 use Rattle.zone_source.specs.declared.error.SourceError.TheVariants as error
-use Rattle.zone_values.specs.Faults.{fault_of}
-use Rattle.zone_values.specs.declared.fault.FaultKind.{FaultKind}
+use Rattle.zone_values.specs.{Faults.{fault_of}, declared.fault.FaultKind.{FaultKind}}
 use Rattle.zone_values.specs.declared.fault.FaultKind.TheVariants as kind
 
 -- why a line has no plain form

@@ -1,11 +1,7 @@
 -- Names whose zones are at hand.
-use Rattle.std.specs.Prelude.{◌≡◌, ℕ, Bool, ◌||◌, List, is_some}
-use Rattle.std.specs.FinMap.{FinMap, contains_key}
+use Rattle.std.specs.{Prelude.{◌≡◌, ℕ, Bool, ◌||◌, List, is_some}, FinMap.{FinMap, contains_key}}
 use Rattle.basics.specs.Keyed.{text_cmp}
-use Rattle.zone_answers.specs.Found.{found_in_table}
-use Rattle.zone_answers.specs.Opened.{AreOpened, table_of}
-use Rattle.zone_answers.specs.declared.opened.OpenedZone.{Ghosts}
-use Rattle.zone_answers.specs.declared.opened.Zones.{Zones}
+use Rattle.zone_answers.specs.{Found.{found_in_table}, Opened.{AreOpened, table_of}, declared.opened.OpenedZone.{Ghosts}, declared.opened.Zones.{Zones}}
 use Rattle.zone_command.specs.Offsets.{offset_in}
 use Rattle.zone_table.specs.declared.table.Table.{Table}
 

@@ -1,9 +1,6 @@
 -- That zones are of a table is a proposition.
-use Rattle.std.proofs.Common.{ℕ, List}
-use Rattle.std.proofs.Props.{props}
-use Rattle.zone_answers.specs.Opened.{IsOpened}
-use Rattle.zone_answers.specs.declared.opened.OpenedZone.{Ghosts}
-use Rattle.zone_answers.specs.declared.opened.Zones.{Zones}
+use Rattle.std.proofs.{Common.{ℕ, List}, Props.{props}}
+use Rattle.zone_answers.specs.{Opened.{IsOpened}, declared.opened.OpenedZone.{Ghosts}, declared.opened.Zones.{Zones}}
 use Rattle.zone_serving.specs.Kept.{AreOf}
 use Rattle.zone_table.specs.declared.table.Table.{Table}
 

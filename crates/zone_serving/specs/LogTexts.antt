@@ -1,10 +1,7 @@
 -- What is shown for a time in a log.
 use Rattle.std.specs.Prelude.{ℕ, List, [], Option, Some, None, Ok, Err, ℤ, min}
-use Rattle.zone_moments.specs.declared.answer_form.AnswerForm.{AnswerForm}
-use Rattle.zone_moments.specs.declared.answer_form.AnswerForm.TheVariants.{People, Rfc3339, Epoch, Json}
-use Rattle.zone_replies.specs.Faults.{Due}
-use Rattle.zone_replies.specs.Instants.{at_due}
-use Rattle.zone_replies.specs.Views.{ZoneView}
+use Rattle.zone_moments.specs.declared.answer_form.AnswerForm.{AnswerForm, TheVariants.{People, Rfc3339, Epoch, Json}}
+use Rattle.zone_replies.specs.{Faults.{Due}, Instants.{at_due}, Views.{ZoneView}}
 
 -- a log has no objects
 abbrev pub log_form : AnswerForm → AnswerForm

@@ -1,21 +1,10 @@
 -- What is made of an input over the text of a file.
 use Rattle.std.specs.Prelude.{◌≡◌, ◌⊎◌, ℕ, List, Bool, true, false, Result, Ok, Err, codes}
-use Rattle.zone_command.specs.Answers.{◌>>=◌}
-use Rattle.zone_command.specs.Named.{Found, named_in}
-use Rattle.zone_command.specs.Refusals.{name_words, told_line}
-use Rattle.zone_command.specs.declared.source.Refusal.{Refusal}
-use Rattle.zone_command.specs.declared.source.Refusal.TheVariants.{Why, NoMemory}
-use Rattle.zone_command.specs.Due.{Making, Makings}
+use Rattle.zone_command.specs.{Answers.{◌>>=◌}, Named.{Found, named_in}, Refusals.{name_words, told_line}, declared.source.Refusal.{Refusal}, declared.source.Refusal.TheVariants.{Why, NoMemory}, Due.{Making, Makings}}
 use Rattle.zone_moments.specs.declared.answer_form.AnswerForm.{AnswerForm}
 use Rattle.zone_outside.specs.Exchanges.{ExchangeSeen}
-use Rattle.zone_pieces.specs.Filters.{Made, replied}
-use Rattle.zone_pieces.specs.Fronts.{fronts_rewritten}
-use Rattle.zone_pieces.specs.Logs.{log_front}
-use Rattle.zone_pieces.specs.Replies.{Replies}
-use Rattle.zone_pieces.specs.Runs.{Ends}
-use Rattle.zone_pieces.specs.declared.running.StreamEnd.{StreamEnd}
-use Rattle.zone_serving.specs.LogTexts.{field_of, log_text}
-use Rattle.zone_serving.specs.Streams.{stream_replies}
+use Rattle.zone_pieces.specs.{Filters.{Made, replied}, Fronts.{fronts_rewritten}, Logs.{log_front}, Replies.{Replies}, Runs.{Ends}, declared.running.StreamEnd.{StreamEnd}}
+use Rattle.zone_serving.specs.{LogTexts.{field_of, log_text}, Streams.{stream_replies}}
 use Rattle.zone_words.specs.Tasks.{TaskAsked, WordsAsked, stream, log}
 
 -- what a task makes of an input by what names find, or by the replies to requests of `zone_answers`; or the words that tell why nothing

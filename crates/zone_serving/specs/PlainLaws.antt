@@ -1,17 +1,10 @@
 -- A request is answered with the bytes of `zone_answers`, by the zones that are read for it.
-use Rattle.std.proofs.Common.{◌≡◌, ℕ, ℤ, Bool, true, false, cond, List, [], Option, Some, None, MatchOption, Ok, Err, refl, sym, subst}
-use Rattle.std.specs.Option.{option_map_or}
-use Rattle.std.specs.Prelude.{codes}
-use Rattle.std.specs.Str.{is_utf8}
-use Rattle.zone_answers.specs.Due.{answer_line, answer_text, shown_at, shown_for, shown_found}
-use Rattle.zone_answers.specs.Faults.{Fault, bad_request, range, request_not_text, found_refusal, has_dates, request_refusal}
-use Rattle.zone_answers.specs.Found.{Found, found_in_table}
+use Rattle.std.{proofs.Common.{◌≡◌, ℕ, ℤ, Bool, true, false, cond, List, [], Option, Some, None, MatchOption, Ok, Err, refl, sym, subst}, specs.Option.{option_map_or}, specs.Prelude.{codes}, specs.Str.{is_utf8}}
+use Rattle.zone_answers.specs.{Due.{answer_line, answer_text, shown_at, shown_for, shown_found}, Faults.{Fault, bad_request, range, request_not_text, found_refusal, has_dates, request_refusal}, Found.{Found, found_in_table}}
 use Rattle.zone_answers.specs.Requests.{Request, name_of, request_of}
-use Rattle.zone_command.specs.Answers.{Answer}
-use Rattle.zone_command.specs.Refusals.{fault_words, name_words}
+use Rattle.zone_command.specs.{Answers.{Answer}, Refusals.{fault_words, name_words}}
 use Rattle.zone_replies.specs.declared.fault.ReplyFault.TheVariants.{OutOfYears}
-use Rattle.zone_serving.specs.Plain.{asked_answer, found_answer, plain_answer, reading_for, shown_answer}
-use Rattle.zone_serving.specs.Streams.{is_fault}
+use Rattle.zone_serving.specs.{Plain.{asked_answer, found_answer, plain_answer, reading_for, shown_answer}, Streams.{is_fault}}
 use Rattle.zone_table.specs.declared.table.Table.{Table}
 
 -- it is the line of `zone_answers` where that refuses nothing, and else a fault

@@ -1,12 +1,6 @@
 -- What the line of a request asks.
-use Rattle.std.specs.Prelude.{ℕ, ◌-◌, Bool, false, ◌||◌, ◌==◌, List, [], ◌∷◌, ◌++◌, length, take, drop, Result, Ok, Err, codes, if◌then◌else◌}
-use Rattle.std.specs.List.{slice_split}
-use Rattle.std.specs.Str.{is_utf8}
-use Rattle.zone_words.specs.FaultLines.{fault_line}
-use Rattle.zone_words.specs.Faults.{Reading}
-use Rattle.zone_words.specs.Options.{is_option}
-use Rattle.zone_words.specs.Tasks.{TaskAsked, Word, WordsAsked}
-use Rattle.zone_words.specs.Words.{words_in}
+use Rattle.std.specs.{Prelude.{ℕ, ◌-◌, Bool, false, ◌||◌, ◌==◌, List, [], ◌∷◌, ◌++◌, length, take, drop, Result, Ok, Err, codes, if◌then◌else◌}, List.{slice_split}, Str.{is_utf8}}
+use Rattle.zone_words.specs.{FaultLines.{fault_line}, Faults.{Reading}, Options.{is_option}, Tasks.{TaskAsked, Word, WordsAsked}, Words.{words_in}}
 
 abbrev pub is_space : ℕ → Bool
 is_space c = c == 32

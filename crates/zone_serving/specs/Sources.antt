@@ -1,9 +1,7 @@
 -- What a text is read as for the requests of `zone_answers`, and what is told of a text that is no source.
 use Rattle.std.specs.Prelude.{◌≡◌, ◌≢◌, ◌⊎◌, ℕ, List, Bool, true, false, None, codes, bytes_eq, take}
-use Rattle.sefunjaro.specs.AnySources.{IsAnyFault, IsAnySource, IsSourceOfForm}
-use Rattle.sefunjaro.specs.declared.any_source.AnySourceFault.{AnySourceFault}
+use Rattle.sefunjaro.specs.{AnySources.{IsAnyFault, IsAnySource, IsSourceOfForm}, declared.any_source.AnySourceFault.{AnySourceFault}, declared.source.OpenSource.{OpenSource}}
 use Rattle.sefunjaro.specs.declared.any_source.AnySourceFault.TheVariants as source
-use Rattle.sefunjaro.specs.declared.source.OpenSource.{OpenSource}
 use Rattle.zone_source.specs.Faults.{source_fault}
 use Rattle.zone_serving.specs.Causes.{cause_words, form_words, line_words}
 

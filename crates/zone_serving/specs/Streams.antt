@@ -1,15 +1,9 @@
 -- What is answered to requests, by what names find.
 use Rattle.std.specs.Prelude.{ℕ, Bool, true, false, List, [], ◌∷◌, ◌++◌, Option, Some, None, Ok, Err, ℤ, codes}
-use Rattle.zone_command.specs.Answers.{Answer, told, ◌>>=◌}
-use Rattle.zone_command.specs.Named.{Found}
-use Rattle.zone_command.specs.Replies.{on_zone}
-use Rattle.zone_moments.specs.declared.answer_form.AnswerForm.{AnswerForm}
-use Rattle.zone_moments.specs.declared.answer_form.AnswerForm.TheVariants.{People, Rfc3339, Epoch, Json}
+use Rattle.zone_command.specs.{Answers.{Answer, told, ◌>>=◌}, Named.{Found}, Replies.{on_zone}}
+use Rattle.zone_moments.specs.declared.answer_form.AnswerForm.{AnswerForm, TheVariants.{People, Rfc3339, Epoch, Json}}
 use Rattle.zone_pieces.specs.Replies.{Replies}
-use Rattle.zone_replies.specs.Faults.{Due, behind, followed}
-use Rattle.zone_replies.specs.Instants.{at_due}
-use Rattle.zone_replies.specs.Readings.{convert_due}
-use Rattle.zone_replies.specs.Views.{ZoneView}
+use Rattle.zone_replies.specs.{Faults.{Due, behind, followed}, Instants.{at_due}, Readings.{convert_due}, Views.{ZoneView}}
 use Rattle.zone_serving.specs.Requests.{Request, request_in}
 use Rattle.zone_words.specs.Tasks.{TaskAsked, at_instants, local_time, converted}
 

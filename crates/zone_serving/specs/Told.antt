@@ -1,12 +1,8 @@
 -- What the code's results tell of requests.
 use Rattle.std.specs.Prelude.{◌≡◌, ℕ, List, Result, Ok, Err}
-use Rattle.zone_command.specs.Answers.{Answer}
-use Rattle.zone_command.specs.Refusals.{IsTold}
-use Rattle.zone_command.specs.declared.source.Refusal.{Refusal}
-use Rattle.zone_command.specs.declared.source.Refusal.TheVariants.{Why, NoMemory}
+use Rattle.zone_command.specs.{Answers.{Answer}, Refusals.{IsTold}, declared.source.Refusal.{Refusal}, declared.source.Refusal.TheVariants.{Why, NoMemory}}
 use Rattle.zone_serving.specs.Requests.{Request}
-use Rattle.zone_words.specs.TaskShown.{task_shown}
-use Rattle.zone_words.specs.declared.task.Asked.{Asked}
+use Rattle.zone_words.specs.{TaskShown.{task_shown}, declared.task.Asked.{Asked}}
 
 -- the result is what is asked, or the words of the fault; or memory ran out
 abbrev pub IsRequest : Request → Result Asked Refusal → Type 0

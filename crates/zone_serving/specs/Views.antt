@@ -1,31 +1,16 @@
 -- What is seen of the zone that a name finds in a table, or why there is none to ask.
-use Rattle.std.specs.Prelude.{◌≡◌, ℕ, ℤ, pos, List, map, Bool, Option, Some, None, Result, Ok, Err, codes, if◌then◌else◌}
-use Rattle.std.specs.FinMap.{contains_key, get}
-use Rattle.sefunjaro.specs.Changes.{window}
-use Rattle.sefunjaro.specs.Replies.{differing, force_of, span_on}
-use Rattle.tz_ever.specs.Ever.{ever_total}
-use Rattle.tz_ever.specs.ForEver.{ever_years}
-use Rattle.tz_ever.specs.Unrolled.{unrolled}
+use Rattle.std.specs.{Prelude.{◌≡◌, ℕ, ℤ, pos, List, map, Bool, Option, Some, None, Result, Ok, Err, codes, if◌then◌else◌}, FinMap.{contains_key, get}}
+use Rattle.sefunjaro.specs.{Changes.{window}, Replies.{differing, force_of, span_on}}
+use Rattle.tz_ever.specs.{Ever.{ever_total}, ForEver.{ever_years}, Unrolled.{unrolled}}
 use Rattle.tz_lookup.specs.Databases.{names_of}
-use Rattle.tz_zone.specs.Sets.{schedule_of}
-use Rattle.tz_zone.specs.declared.compile.ZoneFault.{ZoneFault}
+use Rattle.tz_zone.specs.{Sets.{schedule_of}, declared.compile.ZoneFault.{ZoneFault}, declared.set.FixedTimespanSet.{FixedTimespanSet}}
 use Rattle.tz_zone.specs.declared.compile.ZoneFault.TheVariants as zone_fault
-use Rattle.tz_zone.specs.declared.set.FixedTimespanSet.{FixedTimespanSet}
-use Rattle.zone_displays.specs.Near.{near_names}
-use Rattle.zone_displays.specs.SeenNames.{NameSeen}
-use Rattle.zone_displays.specs.Unknown.{unknown_text}
+use Rattle.zone_displays.specs.{Near.{near_names}, SeenNames.{NameSeen}, Unknown.{unknown_text}}
 use Rattle.zone_replies.specs.Views.{ZoneView}
-use Rattle.zone_spans.specs.Compiled.{compiled, compiled_over}
-use Rattle.zone_spans.specs.GoesOn.{goes_on}
-use Rattle.zone_spans.specs.Lines.{Rulesets, zone_lines}
-use Rattle.zone_spans.specs.Schedules.{instants, is_in_offset_range, total_at, totals_of}
-use Rattle.zone_spans.specs.Years.{latest_year}
-use Rattle.zone_spans.specs.declared.fault.SpanFault.{SpanFault}
+use Rattle.zone_spans.specs.{Compiled.{compiled, compiled_over}, GoesOn.{goes_on}, Lines.{Rulesets, zone_lines}, Schedules.{instants, is_in_offset_range, total_at, totals_of}, Years.{latest_year}, declared.fault.SpanFault.{SpanFault}}
 use Rattle.zone_spans.specs.declared.fault.SpanFault.TheVariants.{UnknownRuleset, MissingUntil, YearRange, RuleYears, DayRange, NoStandardSpan, NoMemory}
 use Rattle.zone_spans.specs.declared.span.FixedTimespanSet as spans
-use Rattle.zone_table.specs.Resolved.{resolved_in}
-use Rattle.zone_table.specs.declared.table.Table.{Table}
-use Rattle.zone_table.specs.declared.zone.ZoneInfo.{ZoneInfo}
+use Rattle.zone_table.specs.{Resolved.{resolved_in}, declared.table.Table.{Table}, declared.zone.ZoneInfo.{ZoneInfo}}
 
 -- spans under a name
 abbrev pub named_set : List ℕ → spans.FixedTimespanSet → FixedTimespanSet

@@ -1,24 +1,17 @@
 -- What is given of a zone as a whole, its file and its string, and of all zones, the tree.
 use Rattle.std.specs.Prelude.{◌≡◌, ◌⊎◌, ℕ, ℤ, List, [], ◌∷◌, ◌++◌, Option, Some, None, Result, Ok, Err, codes}
 use Rattle.tz_zone.specs.declared.set.FixedTimespanSet.{FixedTimespanSet}
-use Rattle.zone_command.specs.Answers.{Answer}
-use Rattle.zone_command.specs.Refusals.{name_words}
+use Rattle.zone_command.specs.{Answers.{Answer}, Refusals.{name_words}}
 use Rattle.zone_serving.specs.Views.{ever_found, found_in, range_words, schedule_words}
 use Rattle.zone_replies.specs.Views.{ZoneView}
 use Rattle.zone_table.specs.declared.table.Table.{Table}
-use Rattle.zone_tzif.specs.Tails.{IsFaultForEver, IsTailForEver}
-use Rattle.zone_tzif.specs.declared.outcome.EverTailFault.{EverTailFault}
+use Rattle.zone_tzif.specs.{Tails.{IsFaultForEver, IsTailForEver}, declared.outcome.EverTailFault.{EverTailFault}, EverFiles.{IsEverFile, IsEverFileFault}, declared.ever.EverFileFault.{EverFileFault}, declared.file.FileFault.{FileFault}}
 use Rattle.zone_tzif.specs.declared.outcome.EverTailFault.TheVariants as tail
-use Rattle.zone_tree.specs.EverTrees.{OfTree}
-use Rattle.zone_tree.specs.declared.refusal.Why.{Why}
-use Rattle.zone_tree.specs.declared.refusal.Why.TheVariants as why
-use Rattle.zone_tree.specs.Trees.{refused}
-use Rattle.zone_tzif_core.specs.declared.values.WriteFault.TheVariants as write
-use Rattle.zone_tzif.specs.EverFiles.{IsEverFile, IsEverFileFault}
-use Rattle.zone_tzif.specs.declared.ever.EverFileFault.{EverFileFault}
 use Rattle.zone_tzif.specs.declared.ever.EverFileFault.TheVariants as file
-use Rattle.zone_tzif.specs.declared.file.FileFault.{FileFault}
 use Rattle.zone_tzif.specs.declared.file.FileFault.TheVariants as changes
+use Rattle.zone_tree.specs.{EverTrees.{OfTree}, declared.refusal.Why.{Why}, Trees.{refused}}
+use Rattle.zone_tree.specs.declared.refusal.Why.TheVariants as why
+use Rattle.zone_tzif_core.specs.declared.values.WriteFault.TheVariants as write
 
 abbrev pub ending_words : List ℕ
 ending_words = codes "the rules of this zone end, so it doesn't go on for ever"

@@ -1,12 +1,10 @@
 //! The answers to requests, by zones that are kept.
 ghost use Rattle.std.specs.Prelude.{◌≡◌, map, true};
 ghost use Rattle.civil_base.specs.DateTimes.{instant};
-ghost use Rattle.zone_command.specs.Answers.{told, IsAnswer};
-ghost use Rattle.zone_command.specs.Replies.{on_zone};
+ghost use Rattle.zone_command.specs.{Answers.{told, IsAnswer}, Replies.{on_zone}};
 ghost use Rattle.zone_moments.specs.Shown.{asked};
 ghost use Rattle.zone_replies.specs.Instants.{at_due};
-ghost use Rattle.zone_serving.specs.Kept.{is_kept};
-ghost use Rattle.zone_serving.specs.Streams.{at_answer, own_instant, readings_due};
+ghost use Rattle.zone_serving.specs.{Kept.{is_kept}, Streams.{at_answer, own_instant, readings_due}};
 
 use crate::kept::KeptZones;
 use crate::readings::{at_told, readings_told};

@@ -1,9 +1,6 @@
 //! Zones that are opened once.
-ghost use Rattle.std.specs.Prelude.{◌≡◌, ℕ, List, true, Ok, Err, IfErr, IfSome, OnOk};
-ghost use Rattle.std.specs.FinMap.{get, contains_key};
-ghost use Rattle.std.proofs.Props.{props};
-ghost use Rattle.zone_command.specs.Named.{named_in};
-ghost use Rattle.zone_command.specs.Refusals.{IsTold};
+ghost use Rattle.std.{specs.Prelude.{◌≡◌, ℕ, List, true, Ok, Err, IfErr, IfSome, OnOk}, specs.FinMap.{get, contains_key}, proofs.Props.{props}};
+ghost use Rattle.zone_command.specs.{Named.{named_in}, Refusals.{IsTold}};
 ghost use Rattle.zone_serving.specs.Kept.{is_kept};
 
 use basics::TextMap;

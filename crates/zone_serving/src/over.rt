@@ -1,12 +1,9 @@
 //! What answers over sources of a kind: at once, or what comes in.
 ghost use Rattle.std.specs.Prelude.{◌≡◌, ◌≤◌, ℕ, List, IfErr, IfOk, length};
-ghost use Rattle.zone_pieces.specs.Filters.{replied};
-ghost use Rattle.zone_pieces.specs.Replies.{Replies};
-ghost use Rattle.zone_pieces.specs.Runs.{Ends};
+ghost use Rattle.zone_pieces.specs.{Filters.{replied}, Replies.{Replies}, Runs.{Ends}};
 ghost use Rattle.zone_command.specs.Refusals.{IsTold};
 ghost use Rattle.zone_serving.specs.Makes.{IsServedBy, chosen, is_plain, made_of};
-ghost use Rattle.zone_words.specs.TaskShown.{task_shown};
-ghost use Rattle.zone_words.specs.Tasks.{log};
+ghost use Rattle.zone_words.specs.{TaskShown.{task_shown}, Tasks.{log}};
 
 use crate::serving::{serve_log, serve_stream};
 use civil_base::OffsetDateTime;

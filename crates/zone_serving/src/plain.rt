@@ -1,16 +1,9 @@
 //! Requests of `zone_answers`, answered as they come: to 2099 as that program does, from 2100 on by what goes on for ever.
 ghost use Rattle.std.specs.Prelude.{◌≡◌, Err};
 ghost use Rattle.sefunjaro.specs.Sources.{table_in};
-ghost use Rattle.zone_answers.specs.Asked.{asked};
-ghost use Rattle.zone_answers.specs.Faults.{zone_refusal};
-ghost use Rattle.zone_answers.specs.Found.{Found};
-ghost use Rattle.zone_answers.specs.Requests.{IsSpelled};
-ghost use Rattle.zone_answers.specs.Told.{TellsReading};
+ghost use Rattle.zone_answers.specs.{Asked.{asked}, Faults.{zone_refusal}, Found.{Found}, Requests.{IsSpelled}, Told.{TellsReading}};
 ghost use Rattle.zone_command.specs.Refusals.{IsTold};
-ghost use Rattle.zone_serving.specs.Kept.{AreOf};
-ghost use Rattle.zone_serving.specs.KeptLaws.{AreOf-prop};
-ghost use Rattle.zone_serving.specs.Plain.{found_answer, is_to_2099, read_answer, shown_answer};
-ghost use Rattle.zone_serving.specs.Told.{IsPut};
+ghost use Rattle.zone_serving.specs.{Kept.{AreOf}, KeptLaws.{AreOf-prop}, Plain.{found_answer, is_to_2099, read_answer, shown_answer}, Told.{IsPut}};
 
 use crate::source::unknown_words;
 use crate::source_words::schedule_words;
@@ -124,10 +117,8 @@ pub(crate) struct PlainStream<'s> {
 impl<'s> PlainStream<'s> {
     ghost use Rattle.std.specs.Prelude.{◌≡◌, Some};
     ghost use Rattle.sefunjaro.specs.Sources.{table_in};
-    ghost use Rattle.zone_answers.specs.Asked.{asked};
-    ghost use Rattle.zone_answers.specs.Requests.{IsSpelled, request_of};
-    ghost use Rattle.zone_serving.specs.Plain.{asked_answer, plain_answer, plain_replies};
-    ghost use Rattle.zone_serving.specs.Told.{IsPut};
+    ghost use Rattle.zone_answers.specs.{Asked.{asked}, Requests.{IsSpelled, request_of}};
+    ghost use Rattle.zone_serving.specs.{Plain.{asked_answer, plain_answer, plain_replies}, Told.{IsPut}};
 
     /// What answers over that source. It takes no memory.
     pub(crate) fn new(alloc: Global, source: &'s OpenSource) -> PlainStream<'s>

@@ -1,11 +1,7 @@
 //! Requests and logs over an exchange.
 ghost use Rattle.std.specs.Prelude.{◌≡◌, ◌≤◌};
-ghost use Rattle.zone_pieces.specs.Filters.{replied};
-ghost use Rattle.zone_pieces.specs.Fronts.{fronts_rewritten};
-ghost use Rattle.zone_pieces.specs.Logs.{log_front};
-ghost use Rattle.zone_pieces.specs.Runs.{Ends};
-ghost use Rattle.zone_serving.specs.LogTexts.{field_of, log_text};
-ghost use Rattle.zone_serving.specs.Streams.{stream_replies};
+ghost use Rattle.zone_pieces.specs.{Filters.{replied}, Fronts.{fronts_rewritten}, Logs.{log_front}, Runs.{Ends}};
+ghost use Rattle.zone_serving.specs.{LogTexts.{field_of, log_text}, Streams.{stream_replies}};
 
 use crate::log_texts::ZoneTexts;
 use crate::stream::SourceStream;

@@ -1,16 +1,11 @@
 //! A source in any form that `zic` reads: its names, its zones, their files and strings, and the tree.
 ghost use Rattle.std.specs.Prelude.{◌≡◌, ℕ, List, map, option_map, Ok, Err, IfErr, IfOk, IfSome};
-ghost use Rattle.sefunjaro.specs.Replies.{reply_view};
-ghost use Rattle.sefunjaro.specs.Sources.{table_in};
-ghost use Rattle.sefunjaro.specs.Zones.{ever_in, set_in};
+ghost use Rattle.sefunjaro.specs.{Replies.{reply_view}, Sources.{table_in}, Zones.{ever_in, set_in}};
 ghost use Rattle.tz_ever.specs.EverShown.{ever_seen};
 ghost use Rattle.tz_zone.specs.Sets.{IsAccepted, schedule_of};
-ghost use Rattle.zone_command.specs.Answers.{IsGiven};
-ghost use Rattle.zone_command.specs.Refusals.{IsTold};
+ghost use Rattle.zone_command.specs.{Answers.{IsGiven}, Refusals.{IsTold}};
 ghost use Rattle.zone_displays.specs.SeenNames.{name_seen};
-ghost use Rattle.zone_serving.specs.Sources.{is_compiled};
-ghost use Rattle.zone_serving.specs.Views.{IsToldAs, entries_of, entry_of, ever_found, found_in, unknown_words};
-ghost use Rattle.zone_serving.specs.Wholes.{IsFileOf, IsStringOf, IsWhole};
+ghost use Rattle.zone_serving.specs.{Sources.{is_compiled}, Views.{IsToldAs, entries_of, entry_of, ever_found, found_in, unknown_words}, Wholes.{IsFileOf, IsStringOf, IsWhole}};
 ghost use Rattle.zone_table.specs.declared.table.Table.{Table};
 
 use crate::over::PlainSource;
@@ -35,11 +30,8 @@ pub struct AnySource {
 }
 
 impl ZoneSource for AnySource {
-    ghost use Rattle.sefunjaro.specs.AnySources.{IsAnySource};
-    ghost use Rattle.sefunjaro.specs.Sources.{release_in, table_in};
-    ghost use Rattle.zone_serving.specs.Sources.{IsUnread};
-    ghost use Rattle.zone_serving.specs.Views.{entries_of, found_in};
-    ghost use Rattle.zone_serving.specs.Wholes.{IsFileOf, IsStringOf, IsTreeOf, IsWhole};
+    ghost use Rattle.sefunjaro.specs.{AnySources.{IsAnySource}, Sources.{release_in, table_in}};
+    ghost use Rattle.zone_serving.specs.{Sources.{IsUnread}, Views.{entries_of, found_in}, Wholes.{IsFileOf, IsStringOf, IsTreeOf, IsWhole}};
 
     type Zone = OpenZone;
 
@@ -101,8 +93,7 @@ impl ZoneSource for AnySource {
 
 impl PlainSource for AnySource {
     ghost use Rattle.sefunjaro.specs.Sources.{table_in};
-    ghost use Rattle.zone_serving.specs.Plain.{plain_replies};
-    ghost use Rattle.zone_serving.specs.Sources.{IsReadPlainly, IsUnreadPlainly};
+    ghost use Rattle.zone_serving.specs.{Plain.{plain_replies}, Sources.{IsReadPlainly, IsUnreadPlainly}};
 
     ghost plainly = { λ text source. IsReadPlainly text source.source };
 

@@ -1,9 +1,6 @@
 //! What is told of faults, in words.
 ghost use Rattle.std.specs.Prelude.{◌≡◌, IfOk};
-ghost use Rattle.zone_serving.specs.Causes.{cause_words, form_words, join_words, kind_words, line_words, of_text};
-ghost use Rattle.zone_serving.specs.Sources.{fault_words};
-ghost use Rattle.zone_serving.specs.Views.{schedule_words};
-ghost use Rattle.zone_serving.specs.Wholes.{changes_words, file_words, tail_words, why_words};
+ghost use Rattle.zone_serving.specs.{Causes.{cause_words, form_words, join_words, kind_words, line_words, of_text}, Sources.{fault_words}, Views.{schedule_words}, Wholes.{changes_words, file_words, tail_words, why_words}};
 
 use itoa::Buffer;
 use sefunjaro::{AnySourceFault, EverFileFault, EverTailFault, SourceError, Why};

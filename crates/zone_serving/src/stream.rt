@@ -1,8 +1,7 @@
 //! What answers requests over a source.
 ghost use Rattle.std.specs.Prelude.{◌≡◌};
 ghost use Rattle.zone_command.specs.Answers.{IsAnswer};
-ghost use Rattle.zone_serving.specs.Requests.{request_of, words_of};
-ghost use Rattle.zone_serving.specs.Streams.{answer_for, answer_of, answer_to};
+ghost use Rattle.zone_serving.specs.{Requests.{request_of, words_of}, Streams.{answer_for, answer_of, answer_to}};
 ghost use Rattle.zone_words.specs.TaskShown.{task_shown};
 
 use crate::answers::{at_answer, convert_answer, local_answer};

@@ -1,12 +1,8 @@
 //! The words of a line, and what they ask.
-ghost use Rattle.std.specs.Prelude.{◌≡◌, ◌==◌, [], ◌++◌, map, string_bytes, IfOk, OnOk};
-ghost use Rattle.std.specs.List.{slice_split};
+ghost use Rattle.std.specs.{Prelude.{◌≡◌, ◌==◌, [], ◌++◌, map, string_bytes, IfOk, OnOk}, List.{slice_split}};
 ghost use Rattle.zone_command.specs.Refusals.{IsTold};
-ghost use Rattle.zone_serving.specs.Requests.{bare, has_option, request_of, word_in, words_among, words_of};
-ghost use Rattle.zone_serving.specs.Told.{IsRequest};
-ghost use Rattle.zone_words.specs.FaultLines.{fault_line};
-ghost use Rattle.zone_words.specs.Shown.{word_shown};
-ghost use Rattle.zone_words.specs.Told.{fault_shown};
+ghost use Rattle.zone_serving.specs.{Requests.{bare, has_option, request_of, word_in, words_among, words_of}, Told.{IsRequest}};
+ghost use Rattle.zone_words.specs.{FaultLines.{fault_line}, Shown.{word_shown}, Told.{fault_shown}};
 
 use std::alloc::{AllocError, Global};
 use zone_command::Refusal;

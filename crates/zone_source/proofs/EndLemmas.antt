@@ -1,13 +1,10 @@
 -- How a run ends after both of its texts were read, or the first of them.
-use Rattle.std.proofs.Common.{◌≡◌, ℕ, List, Some, IsNone, refl, inl, inr}
-use Rattle.std.proofs.lemmas.Option.{IfSome_then}
+use Rattle.std.proofs.{Common.{◌≡◌, ℕ, List, Some, IsNone, refl, inl, inr}, lemmas.Option.{IfSome_then}}
 use Rattle.zone_outside.specs.declared.outside.ReadEnd.{ReadEnd}
 use Rattle.zone_outside.specs.declared.outside.ReadEnd.TheVariants as read
-use Rattle.zone_source.specs.Statuses.{status_of}
-use Rattle.zone_source.specs.declared.running.Status.TheVariants as status
+use Rattle.zone_source.specs.{Statuses.{status_of}, Runs.{Seen, Writes, EndsOver, EndsWell}, Responses.{Responds}}
 use Rattle.zone_source.proofs.TextReadLemmas.{Read, BothRead, NotRead, where_told, neither_more, neither_long, silent_not_done, silent_not_fault, silent_not_write, if_told, too_short, no_more_failed, read_not_ended, too_long_not_ended, no_memory_not_ended}
-use Rattle.zone_source.specs.Runs.{Seen, Writes, EndsOver, EndsWell}
-use Rattle.zone_source.specs.Responses.{Responds}
+use Rattle.zone_source.specs.declared.running.Status.TheVariants as status
 use Rattle.zone_source.specs.declared.running.Answered.TheVariants as answered
 
 -- every line was written

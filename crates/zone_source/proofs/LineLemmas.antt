@@ -1,16 +1,9 @@
 -- The lines of a text begin with what stands before its first line feed.
-use Rattle.std.proofs.Common.{Option, Some, None, ◌≡◌, ℕ, suc, ◌-◌, ◌<◌, ◌≤◌, ◌+◌, Bool, true, false, List, [], ◌∷◌, length, map, refl, sym, ap, ◌∙◌, arith}
-use Rattle.std.proofs.lemmas.Bool.{ltb-true, ltb-false, false_from_ne_true}
-use Rattle.std.proofs.lemmas.List.{take_all, drop_all, length-map}
-use Rattle.std.proofs.lemmas.List.Splits.{slice_split_first, slice_split-cons_no, length-slice_split}
-use Rattle.std.specs.Prelude.{nat_lt, cond, not}
-use Rattle.std.proofs.lemmas.List.Sums.{position_or_len_is}
-use Rattle.std.specs.Option.{unwrap_or}
+use Rattle.std.proofs.{Common.{Option, Some, None, ◌≡◌, ℕ, suc, ◌-◌, ◌<◌, ◌≤◌, ◌+◌, Bool, true, false, List, [], ◌∷◌, length, map, refl, sym, ap, ◌∙◌, arith}, lemmas.Bool.{ltb-true, ltb-false, false_from_ne_true}, lemmas.List.{take_all, drop_all, length-map}}
+use Rattle.std.proofs.lemmas.List.{Splits.{slice_split_first, slice_split-cons_no, length-slice_split}, Sums.{position_or_len_is}}
+use Rattle.std.specs.{Prelude.{nat_lt, cond, not}, Option.{unwrap_or}, List.{slice_split, onto_first, position_or_len, before_first, after_first}, Str.Lines.{strip_carriage_return}}
 use Rattle.memchr.specs.Find.{IsFirstByte, is_byte}
-use Rattle.std.specs.List.{slice_split, onto_first, position_or_len, before_first, after_first}
-use Rattle.std.specs.Str.Lines.{strip_carriage_return}
-use Rattle.zone_source.specs.LineLaws.{without_last_empty-more}
-use Rattle.zone_source.specs.Lines.{is_line_feed, without_last_empty, lines_of}
+use Rattle.zone_source.specs.{LineLaws.{without_last_empty-more}, Lines.{is_line_feed, without_last_empty, lines_of}}
 
 -- a text without a line feed is one piece
 uncut : (bytes : List ℕ) → length bytes ≤ position_or_len is_line_feed bytes → slice_split is_line_feed bytes ≡ bytes ∷ []

@@ -1,7 +1,6 @@
 -- The lines of a buffer with its ends.
 use Rattle.std.proofs.Common.{◌≡◌, ◌≢◌, ℕ, zero, suc, ◌+◌, ◌-◌, ◌<◌, ◌≤◌, List, [], ◌∷◌, ◌++◌, length, take, drop, Some, refl, sym, ap, ◌∙◌, arith, get_or}
-use Rattle.std.proofs.lemmas.List.{append_assoc, length-append, length-drop, take-append-le, drop-append-le, drop_all, drop-drop, take-append-drop, take_at, drop_at, get_or_append_left}
-use Rattle.std.proofs.Math.Seq.{drop-cons, get_or-append_seam}
+use Rattle.std.proofs.{lemmas.List.{append_assoc, length-append, length-drop, take-append-le, drop-append-le, drop_all, drop-drop, take-append-drop, take_at, drop_at, get_or_append_left}, Math.Seq.{drop-cons, get_or-append_seam}}
 use Rattle.std.specs.Prelude.{slice_range, slice_get}
 use Rattle.zone_source.specs.LineLists.{lines_between, start_of, AreEnds, ended}
 

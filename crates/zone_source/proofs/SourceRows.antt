@@ -1,15 +1,7 @@
 -- Lines, statuses and the first fault of a source, at worked rows.
-use Rattle.std.proofs.Common.{◌≡◌, ℕ, List, [], ◌∷◌, ◌++◌, map, Some, None, Option, refl, ap}
-use Rattle.std.specs.Fmt.{digits}
-use Rattle.std.specs.Option.{option_or}
-use Rattle.std.specs.Prelude.{codes}
-use Rattle.std.specs.Str.{is_utf8, chars}
-use Rattle.zone_source.specs.FaultLines.{source_line}
-use Rattle.zone_source.specs.Faults.{SourceFault, source_fault, first_line_refused, kind_of, line_refusal, not_text, bad_line, bad_join}
-use Rattle.zone_source.specs.Lines.{lines_of}
-use Rattle.zone_source.specs.Statuses.{code_of, status_of}
-use Rattle.zone_source.specs.declared.error.BuildKind.TheVariants.{SurpriseContinuationLine, UnknownRuleset, DuplicateLink, DuplicateZone}
-use Rattle.zone_source.specs.declared.running.Status.TheVariants.{Done, Words, Fault, Read, Write, NoMemory, TooLong}
+use Rattle.std.{proofs.Common.{◌≡◌, ℕ, List, [], ◌∷◌, ◌++◌, map, Some, None, Option, refl, ap}, specs.Fmt.{digits}, specs.Option.{option_or}, specs.Prelude.{codes}, specs.Str.{is_utf8, chars}}
+use Rattle.zone_source.specs.{FaultLines.{source_line}, Faults.{SourceFault, source_fault, first_line_refused, kind_of, line_refusal, not_text, bad_line, bad_join}, Lines.{lines_of}, Statuses.{code_of, status_of}}
+use Rattle.zone_source.specs.declared.{error.BuildKind.TheVariants.{SurpriseContinuationLine, UnknownRuleset, DuplicateLink, DuplicateZone}, running.Status.TheVariants.{Done, Words, Fault, Read, Write, NoMemory, TooLong}}
 use Rattle.zone_outside.specs.declared.outside.ReadEnd.TheVariants as end
 use Rattle.zone_table.specs.Refusals.{surprise_continuation_line, unknown_ruleset, duplicate_link, duplicate_zone}
 use Rattle.zone_values.specs.Faults.{refused}

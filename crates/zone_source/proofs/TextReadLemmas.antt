@@ -1,13 +1,9 @@
 -- What holds of a run after both of its texts were read, or the first of them.
 use Rattle.std.proofs.Common.{◌≡◌, ◌⊎◌, ℕ, ◌+◌, ◌<◌, ◌≤◌, List, [], Option, Some, None, IfSome, length, refl, subst, inl, inr, arith}
-use Rattle.zone_outside.specs.Outside.{Counted, Rose, TooMuch}
-use Rattle.zone_outside.specs.Seen.{InputSeen}
-use Rattle.zone_outside.specs.declared.outside.ReadEnd.{ReadEnd}
+use Rattle.zone_outside.specs.{Outside.{Counted, Rose, TooMuch}, Seen.{InputSeen}, declared.outside.ReadEnd.{ReadEnd}, declared.outside.TheConstants.{LIMIT}}
 use Rattle.zone_outside.specs.declared.outside.ReadEnd.TheVariants as read
-use Rattle.zone_outside.specs.declared.outside.TheConstants.{LIMIT}
+use Rattle.zone_source.specs.{Statuses.{IsSilent, IsWritten}, Runs.{Seen}}
 use Rattle.zone_source.specs.declared.running.Status.TheVariants as status
-use Rattle.zone_source.specs.Statuses.{IsSilent, IsWritten}
-use Rattle.zone_source.specs.Runs.{Seen}
 
 -- a text was read to its end
 pub record Read (told left_now : Option (List ℕ)) (had gave : ℕ) (bytes : List ℕ) : Type 0 where

@@ -1,10 +1,7 @@
 -- Worked rows: the releases that first lines name.
-use Rattle.std.proofs.Common.{◌≡◌, [], ◌∷◌, ◌++◌, map, Some, None, refl}
-use Rattle.std.specs.Prelude.{codes}
-use Rattle.std.specs.Str.{is_utf8, chars}
+use Rattle.std.{proofs.Common.{◌≡◌, [], ◌∷◌, ◌++◌, map, Some, None, refl}, specs.Prelude.{codes}, specs.Str.{is_utf8, chars}}
 use lib.Utf8.{encode}
-use Rattle.zone_source.specs.Lines.{lines_of}
-use Rattle.zone_source.specs.Releases.{named_by, release_of, line_naming}
+use Rattle.zone_source.specs.{Lines.{lines_of}, Releases.{named_by, release_of, line_naming}}
 
 -- as it stands, with the spaces in it
 named : map named_by (codes "# version 2026b" ∷ codes "# version 2026b-12-g0123abc-dirty" ∷ codes "# version 2026b or so " ∷ codes "# version  x" ∷ codes "# version ~" ∷ [])

@@ -1,13 +1,8 @@
 -- After the lines, after the line of a fault and for want of memory a run ends by the cause of its texts; and an input that holds
 -- nothing ends no run.
-use Rattle.std.proofs.Common.{◌≡◌, ◌≢◌, ◌⊎◌, Option, Some, None, refl, sym, inl, inr, arith}
-use Rattle.std.specs.Prelude.{IsSome}
-use Rattle.std.proofs.lemmas.Option.{none-some}
-use Rattle.zone_outside.specs.Limit.{text_limit}
-use Rattle.zone_outside.specs.Outside.{Rose, TooMuch}
-use Rattle.zone_outside.specs.Seen.{ShelfSeen}
-use Rattle.zone_source.specs.Runs.{EndsWell, Work, no_input, writes_asked}
-use Rattle.zone_source.specs.Statuses.{EndsBy}
+use Rattle.std.{proofs.Common.{◌≡◌, ◌≢◌, ◌⊎◌, Option, Some, None, refl, sym, inl, inr, arith}, specs.Prelude.{IsSome}, proofs.lemmas.Option.{none-some}}
+use Rattle.zone_outside.specs.{Limit.{text_limit}, Outside.{Rose, TooMuch}, Seen.{ShelfSeen}}
+use Rattle.zone_source.specs.{Runs.{EndsWell, Work, no_input, writes_asked}, Statuses.{EndsBy}}
 use Rattle.zone_source.specs.declared.running.Status.TheVariants as status
 
 pub ends_valid : {C : Type 0} → (found : Option C) → found ≡ None → EndsBy found status.Done

@@ -1,15 +1,10 @@
 -- Why a source is refused, with the number of its line.
-use Rattle.std.specs.Prelude.{ℕ, suc, List, [], ◌∷◌, ◌++◌, Option, Some, None, option_map, reverse, Result, Ok, Err, if◌then◌else◌}
-use Rattle.std.specs.Option.{option_or}
-use Rattle.std.specs.Str.{is_utf8}
+use Rattle.std.specs.{Prelude.{ℕ, suc, List, [], ◌∷◌, ◌++◌, Option, Some, None, option_map, reverse, Result, Ok, Err, if◌then◌else◌}, Option.{option_or}, Str.{is_utf8}}
+use Rattle.zone_values.specs.Values.{LineValue}
 use Rattle.zone_values.specs.Faults as line
 use Rattle.zone_line.specs.LineValues.{value}
-use Rattle.zone_values.specs.Values.{LineValue}
 use Rattle.zone_table.specs.Refusals.{Refusal, surprise_continuation_line, unknown_ruleset, duplicate_link, duplicate_zone, refusal}
-use Rattle.zone_source.specs.declared.error.BuildKind.{BuildKind}
-use Rattle.zone_source.specs.declared.error.BuildKind.TheVariants.{SurpriseContinuationLine, UnknownRuleset, DuplicateLink, DuplicateZone}
-use Rattle.zone_source.specs.Lines.{lines_of}
-use Rattle.zone_source.specs.Zones.{source_value}
+use Rattle.zone_source.specs.{declared.error.BuildKind.{BuildKind}, declared.error.BuildKind.TheVariants.{SurpriseContinuationLine, UnknownRuleset, DuplicateLink, DuplicateZone}, Lines.{lines_of}, Zones.{source_value}}
 
 -- a line that is no text, one with a fault, and one that may not follow those before it
 pub data SourceFault : Type 0 where

@@ -1,6 +1,5 @@
 -- What the words of a run over one file ask.
-use Rattle.std.specs.Prelude.{ℕ, List, [], ◌∷◌, map, String, string_bytes, Option, Some, None}
-use Rattle.std.specs.declared.alloc.Global.{Global}
+use Rattle.std.specs.{Prelude.{ℕ, List, [], ◌∷◌, map, String, string_bytes, Option, Some, None}, declared.alloc.Global.{Global}}
 
 -- FILE, and nothing more
 abbrev pub file_in : List (List ℕ) → Option (List ℕ)

@@ -1,12 +1,8 @@
 -- How a source line joins those before it, where a builder stands for these.
 use Rattle.std.specs.Prelude.{◌≡◌, ℕ, List, [], ◌∷◌, ◌++◌, true, None}
-use Rattle.zone_values.specs.Bounds.{is_bounded_line}
-use Rattle.zone_values.specs.Values.{LineValue}
+use Rattle.zone_values.specs.{Bounds.{is_bounded_line}, Values.{LineValue}}
 use Rattle.zone_table.specs.Built.{Built, StandsFor}
-use Rattle.zone_source.specs.Faults.{line_refusal}
-use Rattle.zone_source.specs.Told.{TellsOfSource}
-use Rattle.zone_source.specs.Zones.{source_value}
-use Rattle.zone_source.specs.declared.error.SourceError.{SourceError}
+use Rattle.zone_source.specs.{Faults.{line_refusal}, Told.{TellsOfSource}, Zones.{source_value}, declared.error.SourceError.{SourceError}}
 
 -- whatever values the builder stood for, the nth line is not refused after them, and it now stands for them and the line's value
 pub record Takes (old new : Built) (n : ℕ) (line : List ℕ) : Type 0 where

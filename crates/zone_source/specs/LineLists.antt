@@ -1,6 +1,5 @@
 -- Lines as one buffer: each ends at a line feed, and a list says where the next would begin.
-use Rattle.std.specs.Prelude.{◌≡◌, ℕ, zero, suc, ◌-◌, ◌<◌, ◌≤◌, List, [], ◌∷◌, ◌++◌, length, slice_range, slice_index}
-use Rattle.std.specs.List.{flat_map}
+use Rattle.std.specs.{Prelude.{◌≡◌, ℕ, zero, suc, ◌-◌, ◌<◌, ◌≤◌, List, [], ◌∷◌, ◌++◌, length, slice_range, slice_index}, List.{flat_map}}
 
 -- the lines that end before these places, the first beginning at a place
 abbrev pub lines_between : ℕ → List ℕ → List ℕ → List (List ℕ)

@@ -1,7 +1,5 @@
 -- The lines of a text of bytes.
-use Rattle.std.specs.Prelude.{ℕ, Bool, List, [], ◌∷◌, map, ◌==◌}
-use Rattle.std.specs.List.{slice_split}
-use Rattle.std.specs.Str.Lines.{strip_carriage_return}
+use Rattle.std.specs.{Prelude.{ℕ, Bool, List, [], ◌∷◌, map, ◌==◌}, List.{slice_split}, Str.Lines.{strip_carriage_return}}
 
 abbrev pub is_line_feed : ℕ → Bool
 is_line_feed byte = byte == 10

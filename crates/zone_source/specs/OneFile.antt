@@ -1,8 +1,6 @@
 -- What a program does with the one file that its words name.
 use Rattle.std.specs.Prelude.{ℕ, List, Option}
-use Rattle.zone_source.specs.FileWords.{file_of}
-use Rattle.zone_source.specs.Runs.{EndsOf, Work}
-use Rattle.zone_source.specs.Starts.{Run, over_file}
+use Rattle.zone_source.specs.{FileWords.{file_of}, Runs.{EndsOf, Work}, Starts.{Run, over_file}}
 
 -- these causes it has over a source, and these bytes are due
 abbrev pub file_work : {C : Type 0} → (List ℕ → Option C) → (List ℕ → List ℕ) → Work (List ℕ) C

@@ -1,15 +1,8 @@
 -- A release that a source names can be named again.
-use Rattle.std.proofs.Common.{◌≡◌, ℕ, ◌-◌, List, [], ◌∷◌, ◌++◌, All, Bool, true, false, cond, drop, take, length, Option, Some, None, refl, ap, ◌∙◌, subst, arith, rules}
-use Rattle.std.proofs.lemmas.Bool.{and_parts, ltb-true}
-use Rattle.std.proofs.lemmas.Bool.Decides.{Decides-eqb, nat_tests}
-use Rattle.std.proofs.lemmas.List.Elements.{All-nil, All-cons, All-weaker}
-use Rattle.std.proofs.lemmas.Slice.Eq.{starts_is}
-use Rattle.std.specs.Prelude.{◌==◌, nat_eq, nat_lt, slice_get, option_and_then, unwrap_or}
-use Rattle.std.specs.List.{list_all, starts_with}
-use Rattle.std.specs.Str.{is_utf8}
-use Rattle.zone_source.specs.Lines.{is_line_feed, lines_of}
-use Rattle.zone_source.specs.ReleaseLines.{IsReleaseLine}
-use Rattle.zone_source.specs.Releases.{heading, is_shown, is_release, if_release, named_by, release_of, line_naming}
+use Rattle.std.proofs.{Common.{◌≡◌, ℕ, ◌-◌, List, [], ◌∷◌, ◌++◌, All, Bool, true, false, cond, drop, take, length, Option, Some, None, refl, ap, ◌∙◌, subst, arith, rules}, lemmas.Bool.{and_parts, ltb-true}, lemmas.Bool.Decides.{Decides-eqb, nat_tests}}
+use Rattle.std.proofs.lemmas.{List.Elements.{All-nil, All-cons, All-weaker}, Slice.Eq.{starts_is}}
+use Rattle.std.specs.{Prelude.{◌==◌, nat_eq, nat_lt, slice_get, option_and_then, unwrap_or}, List.{list_all, starts_with}, Str.{is_utf8}}
+use Rattle.zone_source.specs.{Lines.{is_line_feed, lines_of}, ReleaseLines.{IsReleaseLine}, Releases.{heading, is_shown, is_release, if_release, named_by, release_of, line_naming}}
 
 record CanBeNamed (release : List ℕ) : Type 0 where
   is : is_release release ≡ true

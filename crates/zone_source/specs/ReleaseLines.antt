@@ -1,8 +1,6 @@
 -- The line that names a release, in a source.
-use Rattle.std.specs.Prelude.{◌≡◌, ◌<◌, ℕ, List, length, All, false, Some}
-use Rattle.std.specs.Str.Lines.{strip_carriage_return}
-use Rattle.zone_source.specs.Lines.{is_line_feed}
-use Rattle.zone_source.specs.Releases.{line_naming, named_by}
+use Rattle.std.specs.{Prelude.{◌≡◌, ◌<◌, ℕ, List, length, All, false, Some}, Str.Lines.{strip_carriage_return}}
+use Rattle.zone_source.specs.{Lines.{is_line_feed}, Releases.{line_naming, named_by}}
 
 -- the line names this release, which is something, and is one line of a source as it stands
 pub record IsReleaseLine (release : List ℕ) : Type 0 where

@@ -1,7 +1,5 @@
 -- The release that a source names.
-use Rattle.std.specs.Prelude.{ℕ, Bool, ◌&&◌, not, ◌==◌, nat_eq, nat_le, nat_lt, List, ◌++◌, length, drop, slice_get, Option, Some, None, option_and_then, codes, if◌then◌else◌}
-use Rattle.std.specs.List.{list_all, starts_with}
-use Rattle.std.specs.Str.{is_utf8}
+use Rattle.std.specs.{Prelude.{ℕ, Bool, ◌&&◌, not, ◌==◌, nat_eq, nat_le, nat_lt, List, ◌++◌, length, drop, slice_get, Option, Some, None, option_and_then, codes, if◌then◌else◌}, List.{list_all, starts_with}, Str.{is_utf8}}
 use Rattle.zone_source.specs.Lines.{lines_of}
 
 -- what the line that names a release begins with, as the source of a tz distribution does

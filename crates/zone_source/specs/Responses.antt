@@ -1,11 +1,7 @@
 -- What was found to be due of a text, and what was written of it.
 use Rattle.std.specs.Prelude.{◌≡◌, ℕ, List, [], ◌∷◌, ◌++◌, Option, None, Result, Ok, Err, IsSome, IsSomeAnd}
-use Rattle.zone_outside.specs.Outside.{Rose}
-use Rattle.zone_outside.specs.Seen.{OutputSeen}
-use Rattle.zone_source.specs.Runs.{Writes}
-use Rattle.zone_source.specs.declared.response.Response.{Response}
-use Rattle.zone_source.specs.declared.response.Response.TheVariants.{Answer, Fault}
-use Rattle.zone_source.specs.declared.running.Answered.{Answered}
+use Rattle.zone_outside.specs.{Outside.{Rose}, Seen.{OutputSeen}}
+use Rattle.zone_source.specs.{Runs.{Writes}, declared.response.Response.{Response}, declared.response.Response.TheVariants.{Answer, Fault}, declared.running.Answered.{Answered}}
 use Rattle.zone_source.specs.declared.running.Answered.TheVariants as answered
 
 -- something is told, and the bytes are its line and a line feed

@@ -1,12 +1,7 @@
 -- How a run over a file ends, with the requests of an input or without.
 use Rattle.std.specs.Prelude.{◌≡◌, ◌≢◌, ◌⊎◌, ◌↔◌, ℕ, ◌+◌, ◌<◌, ◌≤◌, List, [], length, Option, Some, None, option_map, IfSome, IsSome, IsNone}
-use Rattle.zone_outside.specs.Limit.{text_limit}
-use Rattle.zone_outside.specs.Outside.{Rose, TooMuch}
-use Rattle.zone_outside.specs.Seen.{ShelfSeen, InputSeen, OutputSeen, shelf_seen, input_seen, output_seen, Grew, GrewBySome}
-use Rattle.zone_outside.specs.declared.outside.Source.{Ghosts as SourceOf}
-use Rattle.zone_outside.specs.declared.outside.Sink.{Ghosts as SinkOf}
-use Rattle.zone_source.specs.Statuses.{EndsBy, IsPastLimit, IsWritten, IsSilent}
-use Rattle.zone_source.specs.declared.running.Status.{Status}
+use Rattle.zone_outside.specs.{Limit.{text_limit}, Outside.{Rose, TooMuch}, Seen.{ShelfSeen, InputSeen, OutputSeen, shelf_seen, input_seen, output_seen, Grew, GrewBySome}, declared.outside.Source.{Ghosts as SourceOf}, declared.outside.Sink.{Ghosts as SinkOf}}
+use Rattle.zone_source.specs.{Statuses.{EndsBy, IsPastLimit, IsWritten, IsSilent}, declared.running.Status.{Status}}
 use Rattle.zone_source.specs.declared.running.Status.TheVariants as status
 
 -- what is seen of the outside of a run

@@ -1,11 +1,6 @@
 -- How a program begins and ends: the words after its own name, a run over the real files and streams, the exit status.
-use Rattle.std.specs.Prelude.{◌≡◌, ◌⊎◌, ℕ, List, drop, String, None}
-use Rattle.std.specs.Process.{exit_status}
-use Rattle.std.specs.declared.alloc.Global.{Global}
-use Rattle.zone_source.specs.Runs.{Seen, no_input}
-use Rattle.zone_source.specs.Statuses.{code_of}
-use Rattle.zone_source.specs.declared.starting.Started.{Started}
-use Rattle.zone_source.specs.declared.running.Status.{Status}
+use Rattle.std.specs.{Prelude.{◌≡◌, ◌⊎◌, ℕ, List, drop, String, None}, Process.{exit_status}, declared.alloc.Global.{Global}}
+use Rattle.zone_source.specs.{Runs.{Seen, no_input}, Statuses.{code_of}, declared.starting.Started.{Started}, declared.running.Status.{Status}}
 
 abbrev pub Words : Type 0
 Words = List (String Global)

@@ -2,8 +2,7 @@
 use Rattle.std.specs.Prelude.{◌≡◌, ◌⊎◌, ℕ, Option, Some, None}
 use Rattle.zone_outside.specs.declared.outside.ReadEnd.{ReadEnd}
 use Rattle.zone_outside.specs.declared.outside.ReadEnd.TheVariants as end
-use Rattle.zone_source.specs.declared.running.Status.{Status}
-use Rattle.zone_source.specs.declared.running.Status.TheVariants.{Done, Words, Fault, Read, Write, NoMemory, TooLong}
+use Rattle.zone_source.specs.declared.running.Status.{Status, TheVariants.{Done, Words, Fault, Read, Write, NoMemory, TooLong}}
 
 abbrev pub code_of : Status → ℕ
 code_of Done = 0

@@ -1,14 +1,9 @@
 -- The values of the source lines, and the zones and the rules that names find in them.
-use Rattle.std.specs.Prelude.{ℕ, List, map, reverse, Option, if◌then◌else◌}
-use Rattle.std.specs.Result.{result_unwrap_or}
-use Rattle.std.specs.Str.{is_utf8}
+use Rattle.std.specs.{Prelude.{ℕ, List, map, reverse, Option, if◌then◌else◌}, Result.{result_unwrap_or}, Str.{is_utf8}}
 use Rattle.basics.specs.Listed.{listed}
 use Rattle.zone_line.specs.LineValues.{value}
 use Rattle.zone_values.specs.Values.{LineValue, space}
-use Rattle.zone_table.specs.Joined.{rules_of}
-use Rattle.zone_table.specs.Resolved.{resolved}
-use Rattle.zone_table.specs.declared.rule.RuleInfo.{RuleInfo}
-use Rattle.zone_table.specs.declared.zone.ZoneInfo.{ZoneInfo}
+use Rattle.zone_table.specs.{Joined.{rules_of}, Resolved.{resolved}, declared.rule.RuleInfo.{RuleInfo}, declared.zone.ZoneInfo.{ZoneInfo}}
 use Rattle.zone_source.specs.Lines.{lines_of}
 
 -- what a source line says; one that is no text or has a fault says nothing

@@ -65,9 +65,7 @@ impl SourceError {
     ghost use Rattle.std.specs.Prelude.{◌≡◌, MatchOption, Some};
     ghost use Rattle.zone_values.specs.Faults.{fault_of};
     ghost use Rattle.zone_table.specs.Built.{refusal_of};
-    ghost use Rattle.zone_source.specs.Faults.{bad_line, bad_join, kind_of};
-    ghost use Rattle.zone_source.specs.Told.{told_by_source};
-    ghost use Rattle.zone_source.specs.declared.error.SourceError.TheVariants.{NoMemory};
+    ghost use Rattle.zone_source.specs.{Faults.{bad_line, bad_join, kind_of}, Told.{told_by_source}, declared.error.SourceError.TheVariants.{NoMemory}};
 
     /// The refusal of the nth line, or want of memory.
     pub(crate) fn of_line(number: usize, error: zone_line::Error) -> SourceError

@@ -24,8 +24,7 @@ pub struct FaultText {
 impl FaultText {
     ghost use Rattle.std.specs.Prelude.{◌≡◌, ◌≤◌, [], length, codes, IsSome, IfSome, IsSomeAnd, None, MatchOption};
     ghost use Rattle.zone_values.specs.Faults.{fault_of};
-    ghost use Rattle.zone_source.specs.FaultLines.{bad_line_text, bad_join_text, IsShort, line_shown, line_with, source_line};
-    ghost use Rattle.zone_source.specs.Told.{told_by_source};
+    ghost use Rattle.zone_source.specs.{FaultLines.{bad_line_text, bad_join_text, IsShort, line_shown, line_with, source_line}, Told.{told_by_source}};
 
     /// Of the fault that a source is refused for; none for want of memory.
     pub fn of_source(error: &SourceError) -> Option<FaultText>

@@ -1,11 +1,7 @@
 //! The lines of a text of bytes, lent one by one; lines that are written one after another, in one buffer; and bytes as text.
-ghost use Rattle.std.specs.Prelude.{◌≡◌, true, false, IfSome, IfNone, ◌-◌, ◌<◌, ◌≤◌, [], ◌∷◌, ◌++◌, length, slice_get, slice_range, vec_len, vec_capacity, OnOk, OnErr};
-ghost use Rattle.std.specs.List.{before_first, after_first, position_or_len};
-ghost use Rattle.std.specs.Str.Lines.{strip_carriage_return};
-ghost use Rattle.std.specs.Str.{is_utf8};
-ghost use Rattle.std.specs.Option.{option_copied};
-ghost use Rattle.zone_source.specs.Lines.{is_line_feed, lines_of};
-ghost use Rattle.zone_source.specs.LineLists.{ended, start_of};
+ghost use Rattle.std.specs.{Prelude.{◌≡◌, true, false, IfSome, IfNone, ◌-◌, ◌<◌, ◌≤◌, [], ◌∷◌, ◌++◌, length, slice_get, slice_range, vec_len, vec_capacity, OnOk, OnErr}, List.{before_first, after_first, position_or_len}, Str.Lines.{strip_carriage_return}};
+ghost use Rattle.std.specs.{Str.{is_utf8}, Option.{option_copied}};
+ghost use Rattle.zone_source.specs.{Lines.{is_line_feed, lines_of}, LineLists.{ended, start_of}};
 
 use memchr::memchr;
 use std::alloc::{AllocError, Global};

@@ -1,11 +1,6 @@
 //! Programs over one file, which their words name.
-ghost use Rattle.std.specs.Prelude.{◌≡◌, ◌≤◌, ℕ, List, Option, length, option_map};
-ghost use Rattle.std.specs.Option.{ForSome};
-ghost use Rattle.zone_source.specs.FileWords.{file_of};
-ghost use Rattle.zone_source.specs.OneFile.{file_run, file_work};
-ghost use Rattle.zone_source.specs.Responses.{IsResponse};
-ghost use Rattle.zone_source.specs.Runs.{EndsOf, seen};
-ghost use Rattle.zone_source.specs.Starts.{Starts};
+ghost use Rattle.std.specs.{Prelude.{◌≡◌, ◌≤◌, ℕ, List, Option, length, option_map}, Option.{ForSome}};
+ghost use Rattle.zone_source.specs.{FileWords.{file_of}, OneFile.{file_run, file_work}, Responses.{IsResponse}, Runs.{EndsOf, seen}, Starts.{Starts}};
 
 use crate::response::Response;
 use crate::running::{FileTask, Status, run_task};

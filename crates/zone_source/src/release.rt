@@ -1,8 +1,6 @@
 //! The release of a source.
-ghost use Rattle.std.specs.Prelude.{◌≡◌, ◌++◌, option_map, slice_get, OnOk};
-ghost use Rattle.std.specs.List.{list_all};
-ghost use Rattle.zone_source.specs.Lines.{lines_of};
-ghost use Rattle.zone_source.specs.Releases.{is_shown, is_release, behind_heading, named_by, line_naming, release_of};
+ghost use Rattle.std.specs.{Prelude.{◌≡◌, ◌++◌, option_map, slice_get, OnOk}, List.{list_all}};
+ghost use Rattle.zone_source.specs.{Lines.{lines_of}, Releases.{is_shown, is_release, behind_heading, named_by, line_naming, release_of}};
 
 use crate::lines::{Lines, text_of};
 use std::alloc::AllocError;

@@ -1,8 +1,6 @@
 //! What a run over a text is to write, and the lines of faults as bytes.
 ghost use Rattle.std.specs.Prelude.{◌≡◌, ◌++◌, ◌∷◌, [], IfOk};
-ghost use Rattle.zone_source.specs.FaultLines.{line_shown, source_line as source_text, IsShort};
-ghost use Rattle.zone_source.specs.Responses.{IsLineOf};
-ghost use Rattle.zone_source.specs.Told.{told_by_source};
+ghost use Rattle.zone_source.specs.{FaultLines.{line_shown, source_line as source_text, IsShort}, Responses.{IsLineOf}, Told.{told_by_source}};
 
 use crate::error::SourceError;
 use crate::fault_line::{FaultText, write_fault_line};

@@ -1,8 +1,6 @@
 //! How a run ended; the run of a program over a text and requests, and over one file.
-ghost use Rattle.std.specs.Prelude.{◌≡◌, ◌≤◌, length, option_map, IsNone, Some};
-ghost use Rattle.std.specs.Option.{ForSome};
-ghost use Rattle.zone_source.specs.Responses.{IsResponse, Responds};
-ghost use Rattle.zone_source.specs.Runs.{EndsOf, EndsSurely, Work, seen, EndsOver, EndsWell, Writes, run_seen};
+ghost use Rattle.std.specs.{Prelude.{◌≡◌, ◌≤◌, length, option_map, IsNone, Some}, Option.{ForSome}};
+ghost use Rattle.zone_source.specs.{Responses.{IsResponse, Responds}, Runs.{EndsOf, EndsSurely, Work, seen, EndsOver, EndsWell, Writes, run_seen}};
 ghost use Rattle.zone_outside.specs.Seen.{output_seen};
 
 use crate::no_input::NoInput;
@@ -177,8 +175,7 @@ struct TaskAnswers<'p, T> {
 
 impl<'p, T: FileTask> TextAnswers for TaskAnswers<'p, T> {
     ghost use Rattle.std.specs.Prelude.{Some};
-    ghost use Rattle.zone_source.specs.EndLaws.{asked_ends_well};
-    ghost use Rattle.zone_source.specs.Runs.{writes_asked};
+    ghost use Rattle.zone_source.specs.{EndLaws.{asked_ends_well}, Runs.{writes_asked}};
 
     ghost writes = { λ answers. writes_asked T.work (Some (T.asked answers.task.now)) };
 

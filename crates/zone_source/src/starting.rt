@@ -1,7 +1,6 @@
 //! How a program begins: the words after its own name, a parser, the real files and streams.
 ghost use Rattle.std.specs.Prelude.{◌≡◌, ℕ, List, MatchOption};
-ghost use Rattle.zone_source.specs.Starts.{HasNoParser, HasNoWords, HasRun, Run, Starts, StartsBare, Words, exit_of, words_after};
-ghost use Rattle.zone_source.specs.Runs.{run_seen};
+ghost use Rattle.zone_source.specs.{Starts.{HasNoParser, HasNoWords, HasRun, Run, Starts, StartsBare, Words, exit_of, words_after}, Runs.{run_seen}};
 
 use crate::running::Status;
 use std::alloc::Global;
@@ -23,8 +22,7 @@ pub struct Started {
 }
 
 impl Termination for Started {
-    ghost use Rattle.std.specs.Prelude.{◌≡◌};
-    ghost use Rattle.std.specs.Process.{exit_status};
+    ghost use Rattle.std.specs.{Prelude.{◌≡◌}, Process.{exit_status}};
     ghost use Rattle.zone_source.specs.Starts.{exit_of};
 
     fn report<R: Eprint>(self, _rt: &R) -> ExitCode

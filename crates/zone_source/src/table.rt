@@ -1,11 +1,7 @@
 //! The table of a source.
 ghost use Rattle.std.specs.Prelude.{◌≡◌, ◌≤◌, None, length, IfOk, IfErr, OnOk};
-ghost use Rattle.zone_table.specs.BoundedTables.{IsBoundedTable};
-ghost use Rattle.zone_table.specs.Tables.{IsTableOf};
-ghost use Rattle.zone_source.specs.Faults.{source_fault};
-ghost use Rattle.zone_source.specs.Joining.{Takes, IsRefusal};
-ghost use Rattle.zone_source.specs.Told.{TellsOfSource};
-ghost use Rattle.zone_source.specs.Zones.{values_of};
+ghost use Rattle.zone_table.specs.{BoundedTables.{IsBoundedTable}, Tables.{IsTableOf}};
+ghost use Rattle.zone_source.specs.{Faults.{source_fault}, Joining.{Takes, IsRefusal}, Told.{TellsOfSource}, Zones.{values_of}};
 
 use crate::error::SourceError;
 use crate::lines::{Lines, text_of};

@@ -1,10 +1,6 @@
 -- Small numbers, as tests and as bounds.
-use Rattle.std.proofs.Common.{Bool, true, false, ◌&&◌, List, ℤ, All, refl, arith, IsTrue}
-use Rattle.std.proofs.lemmas.Grind.{common_steps}
-use Rattle.std.proofs.lemmas.List.Sums.{AllPass-from_list_all, list_all-from_AllPass}
-use Rattle.std.specs.List.{list_all}
-use Rattle.zone_spans.specs.Bounds.{is_small, is_bounded_entry, IsSmall, IsSmallEntry}
-use Rattle.zone_spans.specs.Entries.{Entry}
+use Rattle.std.{proofs.Common.{Bool, true, false, ◌&&◌, List, ℤ, All, refl, arith, IsTrue}, proofs.lemmas.Grind.{common_steps}, proofs.lemmas.List.Sums.{AllPass-from_list_all, list_all-from_AllPass}, specs.List.{list_all}}
+use Rattle.zone_spans.specs.{Bounds.{is_small, is_bounded_entry, IsSmall, IsSmallEntry}, Entries.{Entry}}
 
 pub both : (a b : Bool) → IsTrue a → IsTrue b → IsTrue (a && b)
 both true b p q = q

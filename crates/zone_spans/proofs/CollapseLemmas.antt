@@ -1,10 +1,7 @@
 -- What the collapse keeps, for every list of entries.
-use Rattle.std.proofs.Common.{◌≡◌, true, false, cond, List, [], ◌∷◌, ◌++◌, reverse, ℤ, ◌+ℤ◌, ◌<ℤ◌, ◌≤ℤ◌, refl, sym, ap, ◌∙◌, subst, append_assoc}
-use Rattle.std.proofs.lemmas.List.{reverse-append, append-nil}
+use Rattle.std.proofs.{Common.{◌≡◌, true, false, cond, List, [], ◌∷◌, ◌++◌, reverse, ℤ, ◌+ℤ◌, ◌<ℤ◌, ◌≤ℤ◌, refl, sym, ap, ◌∙◌, subst, append_assoc}, lemmas.List.{reverse-append, append-nil}}
 use Rattle.basics.specs.ComparisonLaws.{le_from_fail, le_itself, le_le}
-use Rattle.zone_spans.specs.declared.span.FixedTimespan.{FixedTimespan}
-use Rattle.zone_spans.specs.Entries.{Entry, total}
-use Rattle.zone_spans.specs.Collapse.{is_same_span, is_no_later, kept_with, kept_of, without_first, collapsed, LocalEndsRise, EntryTimesDontFall}
+use Rattle.zone_spans.specs.{declared.span.FixedTimespan.{FixedTimespan}, Entries.{Entry, total}, Collapse.{is_same_span, is_no_later, kept_with, kept_of, without_first, collapsed, LocalEndsRise, EntryTimesDontFall}}
 
 -- the same, of a list with its latest entry first
 abbrev Falls : List Entry → Type 0

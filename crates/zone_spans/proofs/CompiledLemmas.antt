@@ -1,26 +1,13 @@
 -- The way from the tests of a zone's lines to its spans.
-use Rattle.std.proofs.Common.{◌≡◌, ℕ, Bool, true, false, not, ◌&&◌, ◌||◌, cond, List, [], ◌∷◌, ◌++◌, find, Option, Some, None, option_map, Result, Err, All, IsTrue, refl, sym, ap, ◌∙◌, subst}
-use Rattle.std.proofs.lemmas.List.Sums.{AllPass-from_list_all}
-use Rattle.std.specs.Cmp.{IsStrictWeakOrder}
-use Rattle.std.specs.List.{list_all, list_any}
-use Rattle.basics.specs.Sorted.{put_in, stable_sort}
-use Rattle.basics.specs.SortedLaws.{Rises, Rises-stable_sort}
-use Rattle.basics.specs.InOrderLaws.{or_turned}
+use Rattle.std.proofs.{Common.{◌≡◌, ℕ, Bool, true, false, not, ◌&&◌, ◌||◌, cond, List, [], ◌∷◌, ◌++◌, find, Option, Some, None, option_map, Result, Err, All, IsTrue, refl, sym, ap, ◌∙◌, subst}, lemmas.List.Sums.{AllPass-from_list_all}}
+use Rattle.std.specs.{Cmp.{IsStrictWeakOrder}, List.{list_all, list_any}}
+use Rattle.basics.specs.{Sorted.{put_in, stable_sort}, SortedLaws.{Rises, Rises-stable_sort}, InOrderLaws.{or_turned}, ComparisonLaws.{lt_from_fail}}
 use Rattle.zone_table.specs.declared.zone.ZoneInfo.{ZoneInfo}
-use Rattle.zone_spans.specs.declared.fault.SpanFault.{SpanFault}
-use Rattle.zone_spans.specs.declared.fault.SpanFault.TheVariants.{UnknownRuleset, MissingUntil, YearRange, RuleYears, DayRange, NoStandardSpan, NoMemory}
-use Rattle.zone_spans.specs.declared.span.FixedTimespanSet.{FixedTimespanSet}
-use Rattle.zone_spans.specs.Bounds.{IsSoundOver, is_bounded_line}
-use Rattle.zone_spans.specs.Causes.{IsDue, IsUnknown}
-use Rattle.zone_spans.specs.Collapse.{EntryTimesDontFall}
-use Rattle.zone_spans.specs.Compiled.{compiled_over, set_of, set_of_lines_over, unless}
-use Rattle.zone_spans.specs.Entries.{Entry, first_span, fixed_span, is_sooner, is_standard, raw_entries_over, sorted_entries_over}
-use Rattle.zone_spans.specs.Faults.{begins_ruled, entry_test, first_met, is_unknown, leaves_year_over, line_fault, line_tests, schedule_fault_over}
+use Rattle.zone_spans.specs.declared.{fault.SpanFault.{SpanFault}, fault.SpanFault.TheVariants.{UnknownRuleset, MissingUntil, YearRange, RuleYears, DayRange, NoStandardSpan, NoMemory}, span.FixedTimespanSet.{FixedTimespanSet}}
+use Rattle.zone_spans.specs.{Bounds.{IsSoundOver, is_bounded_line}, Causes.{IsDue, IsUnknown}, Collapse.{EntryTimesDontFall}, Compiled.{compiled_over, set_of, set_of_lines_over, unless}}
+use Rattle.zone_spans.specs.{Entries.{Entry, first_span, fixed_span, is_sooner, is_standard, raw_entries_over, sorted_entries_over}, Faults.{begins_ruled, entry_test, first_met, is_unknown, leaves_year_over, line_fault, line_tests, schedule_fault_over}}
 use Rattle.zone_spans.specs.Lines.{Line, Rulesets, is_ruled, zone_lines}
-use Rattle.zone_spans.proofs.BoundLemmas.{first, second}
-use Rattle.basics.specs.ComparisonLaws.{lt_from_fail}
-use Rattle.zone_spans.proofs.FiringLemmas.{int_lt_chain, int_lt_one_way}
-use Rattle.zone_spans.proofs.SoundLemmas.{neither_left, neither_right, none_at}
+use Rattle.zone_spans.proofs.{BoundLemmas.{first, second}, FiringLemmas.{int_lt_chain, int_lt_one_way}, SoundLemmas.{neither_left, neither_right, none_at}}
 
 first_met_more : (tests others : List (Bool × SpanFault)) (fault : SpanFault) → first_met tests ≡ Some fault
     → first_met (tests ++ others) ≡ Some fault

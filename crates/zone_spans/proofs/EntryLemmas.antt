@@ -1,24 +1,14 @@
 -- The entries of a line, and one line more.
 use Rattle.std.proofs.Common.{◌≡◌, ℕ, ◌+◌, ◌-◌, ◌<◌, Bool, true, false, ◌&&◌, cond, if◌then◌else◌, List, [], ◌∷◌, ◌++◌, length, get_or, map, filter, find, take, drop, reverse, Option, Some, None, option_map, ℤ, pos, int_lt, int_eq, int_cmp, is_lt, IsTrue, IfSome, refl, sym, ap, ◌∙◌, arith}
-use Rattle.std.proofs.lemmas.Grind.{common_steps}
-use Rattle.std.proofs.lemmas.List.{append_assoc, append-nil, drop_all, length-drop, map-append, reverse-append, take_all}
-use Rattle.std.proofs.lemmas.List.Elements.{All-drop, All-filter, All-take}
-use Rattle.std.proofs.lemmas.List.Folds.{list_all-append}
+use Rattle.std.proofs.lemmas.{Grind.{common_steps}, List.{append_assoc, append-nil, drop_all, length-drop, map-append, reverse-append, take_all}, List.Elements.{All-drop, All-filter, All-take}, List.Folds.{list_all-append}}
 use Rattle.std.proofs.lemmas.List.Sums.{AllPass-from_list_all, list_all-from_AllPass}
-use Rattle.std.specs.List.{list_all, position_or_len}
-use Rattle.std.specs.Option.{option_or}
+use Rattle.std.specs.{List.{list_all, position_or_len}, Option.{option_or}}
 use Rattle.basics.specs.Sorted.{put_in, stable_sort}
 use Rattle.zone_values.specs.Bounds.{are_small_seconds}
 use Rattle.zone_spans.specs.Bounds.{is_bounded_entry, is_bounded_firing, is_bounded_line, is_bounded_span, is_small, is_start}
-use Rattle.zone_spans.specs.Entries.{Entry, at_start, entries_from_over, entries_of_over, entry_of, fixed_span, is_sooner, next_start_over, span_of, start_entry}
-use Rattle.zone_spans.specs.Firings.{Firing, line_firings_over}
-use Rattle.zone_spans.specs.Lines.{Line, fixed_saving, is_ruled}
-use Rattle.zone_spans.specs.Listing.{is_at, listed_firings, listed_from, start_firing}
-use Rattle.zone_spans.specs.Stands.{StandsFor}
-use Rattle.zone_spans.proofs.BoundLemmas.{both, first, second}
-use Rattle.zone_spans.proofs.FiringLemmas.{less_is}
-use Rattle.zone_spans.proofs.FoundLemmas.{found_passes, from_here}
-use Rattle.zone_spans.proofs.SoundLemmas.{bounded_offset, bounded_saving}
+use Rattle.zone_spans.specs.{Entries.{Entry, at_start, entries_from_over, entries_of_over, entry_of, fixed_span, is_sooner, next_start_over, span_of, start_entry}, Firings.{Firing, line_firings_over}, Lines.{Line, fixed_saving, is_ruled}}
+use Rattle.zone_spans.specs.{Listing.{is_at, listed_firings, listed_from, start_firing}, Stands.{StandsFor}}
+use Rattle.zone_spans.proofs.{BoundLemmas.{both, first, second}, FiringLemmas.{less_is}, FoundLemmas.{found_passes, from_here}, SoundLemmas.{bounded_offset, bounded_saving}}
 
 -- the entries of what a line lists
 pub listed_more : (line : Line) (es : List Entry) (start : ℤ) (fs : List Firing) (place : ℕ) → place ≡ position_or_len (is_at start) fs

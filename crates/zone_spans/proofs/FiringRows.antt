@@ -1,24 +1,11 @@
 -- The firings of lines and what they list, at worked rows. Times are those of `date -u -d`.
 use Rattle.std.specs.Prelude.{◌≡◌, ℕ, List, [], ◌∷◌, map, Some, None, ℤ, pos, negsuc, codes, refl}
-use Rattle.basics.specs.Days.{days_after_zero, year_start, days_through, days_into_year, day, is_leap, days_in_year, days_in_month}
-use Rattle.basics.specs.Dates.{last_with}
-use Rattle.basics.specs.Weekdays.{weekday_of}
-use Rattle.zone_values.specs.Days.{named_day, first_from}
-use Rattle.zone_values.specs.declared.change.ChangeTime.TheVariants.{UntilYear, UntilDay, UntilTime}
-use Rattle.zone_values.specs.declared.day.DaySpec.{DaySpec}
-use Rattle.zone_values.specs.declared.day.DaySpec.TheVariants.{Ordinal, FirstOnOrAfter}
-use Rattle.zone_values.specs.declared.month.Month.{Month}
-use Rattle.zone_values.specs.declared.month.Month.TheVariants.{January, March, July, November, December}
-use Rattle.zone_values.specs.declared.time.TimeSpec.TheVariants.{Zero}
-use Rattle.zone_values.specs.declared.time.TimeType.TheVariants.{Wall, Standard, UTC}
-use Rattle.zone_values.specs.declared.weekday.Weekday.TheVariants.{Sunday}
+use Rattle.basics.specs.{Days.{days_after_zero, year_start, days_through, days_into_year, day, is_leap, days_in_year, days_in_month}, Dates.{last_with}, Weekdays.{weekday_of}}
+use Rattle.zone_values.specs.{Days.{named_day, first_from}, declared.change.ChangeTime.TheVariants.{UntilYear, UntilDay, UntilTime}, declared.day.DaySpec.{DaySpec}, declared.day.DaySpec.TheVariants.{Ordinal, FirstOnOrAfter}, declared.month.Month.{Month}}
+use Rattle.zone_values.specs.declared.{month.Month.TheVariants.{January, March, July, November, December}, time.TimeSpec.TheVariants.{Zero}, time.TimeType.TheVariants.{Wall, Standard, UTC}, weekday.Weekday.TheVariants.{Sunday}}
 use Rattle.zone_values.specs.declared.year.Year.TheVariants.{Maximum, Number}
-use Rattle.zone_table.specs.Moments.{applies_to_year, instant_of, last_year, moment}
-use Rattle.zone_table.specs.declared.rule.RuleInfo.{RuleInfo}
-use Rattle.zone_spans.specs.Firings.{Firing, earliest, fired, firings_of_years, year_firings, years_expanded, years_over}
-use Rattle.zone_spans.specs.Listing.{listed_from, start_firing}
-use Rattle.zone_spans.specs.Windows.{line_end}
-use Rattle.zone_spans.specs.Years.{latest_year}
+use Rattle.zone_table.specs.{Moments.{applies_to_year, instant_of, last_year, moment}, declared.rule.RuleInfo.{RuleInfo}}
+use Rattle.zone_spans.specs.{Firings.{Firing, earliest, fired, firings_of_years, year_firings, years_expanded, years_over}, Listing.{listed_from, start_firing}, Windows.{line_end}, Years.{latest_year}}
 
 -- a rule for good from 2007 on
 abbrev pub yearly : Month → DaySpec → ℤ → ℤ → List ℕ → RuleInfo

@@ -1,7 +1,5 @@
 -- What a search finds passes what all pass, and what stands at a place of a list.
-use Rattle.std.proofs.Common.{◌≡◌, ℕ, suc, ◌+◌, ◌<◌, Bool, true, false, cond, List, [], ◌∷◌, length, get_or, drop, find, Some, IfSome, IsTrue, sym, ◌∙◌, drop-cons, add-one}
-use Rattle.std.specs.List.{list_all}
-use Rattle.std.proofs.lemmas.Bool.{and_parts}
+use Rattle.std.{proofs.Common.{◌≡◌, ℕ, suc, ◌+◌, ◌<◌, Bool, true, false, cond, List, [], ◌∷◌, length, get_or, drop, find, Some, IfSome, IsTrue, sym, ◌∙◌, drop-cons, add-one}, specs.List.{list_all}, proofs.lemmas.Bool.{and_parts}}
 
 -- of items that all pass one test, the first that passes another passes the one
 pub found_passes : {X : Type 0} (test passes : X → Bool) (xs : List X) → list_all passes xs ≡ true → IfSome (find test xs) (λ x. IsTrue (passes x))

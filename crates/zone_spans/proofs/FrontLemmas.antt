@@ -1,24 +1,13 @@
 -- The earliest of a year's rules is the first of their fronts.
 use Rattle.std.proofs.Common.{pos, ◌≡◌, ℕ, ◌+◌, ◌<◌, ◌≤◌, Bool, true, false, not, ◌&&◌, ◌||◌, ◌+ℤ◌, ◌-ℤ◌, cond, List, [], ◌∷◌, ◌++◌, length, map, filter, ◌⊎◌, inl, inr, Option, Some, None, ℤ, int_lt, nat_lt, IfSome, append_assoc, append-nil, refl, sym, ap, ◌∙◌, arith}
-use Rattle.std.proofs.lemmas.Int.{ints}
-use Rattle.std.proofs.lemmas.List.{length-map}
-use Rattle.std.proofs.lemmas.Bool.Decides.{nat_tests}
-use Rattle.std.specs.Cmp.{IsStrictWeakOrder}
-use Rattle.std.specs.List.{AllByRecursion}
-use Rattle.basics.specs.Sorted.{stable_sort}
-use Rattle.basics.specs.LogicLaws.{every_weaker}
-use Rattle.zone_values.specs.declared.time.TimeType.{TimeType}
-use Rattle.zone_values.specs.declared.time.TimeType.TheVariants.{Wall, Standard, UTC}
-use Rattle.zone_table.specs.declared.rule.RuleInfo.{RuleInfo}
-use Rattle.zone_values.specs.declared.change.ChangeTime.{ChangeTime}
-use Rattle.zone_table.specs.Moments.{instant_of, moment}
-use Rattle.zone_spans.specs.Firings.{Fired, Firing, earliest, fired, is_earlier, is_over, year_firings}
-use Rattle.zone_spans.specs.Fronts.{first_of, firing_of, fronts_of, has_mark, head_of, is_below, fires_sooner, left, next_firing, same_mark, sooner, tail_of}
-use Rattle.zone_spans.specs.Placed.{Placed, placed_from, time_of}
-use Rattle.zone_spans.specs.declared.front.YearRules.{YearRules}
-use Rattle.zone_spans.proofs.FiringLemmas.{int_lt_chain, int_lt_one_way}
-use Rattle.zone_spans.proofs.Picks.{all_filter, all_sorted, pick, pick_least, pick_length, pick_others, pick_sorted}
-use Rattle.zone_spans.proofs.PlacedLemmas.{IsAt, Rises, all_at, placed_most, placed_rises, placed_rules}
+use Rattle.std.proofs.lemmas.{Int.{ints}, List.{length-map}, Bool.Decides.{nat_tests}}
+use Rattle.std.specs.{Cmp.{IsStrictWeakOrder}, List.{AllByRecursion}}
+use Rattle.basics.specs.{Sorted.{stable_sort}, LogicLaws.{every_weaker}}
+use Rattle.zone_values.specs.declared.{time.TimeType.{TimeType}, time.TimeType.TheVariants.{Wall, Standard, UTC}, change.ChangeTime.{ChangeTime}}
+use Rattle.zone_table.specs.{declared.rule.RuleInfo.{RuleInfo}, Moments.{instant_of, moment}}
+use Rattle.zone_spans.specs.{Firings.{Fired, Firing, earliest, fired, is_earlier, is_over, year_firings}, Fronts.{first_of, firing_of, fronts_of, has_mark, head_of, is_below, fires_sooner, left, next_firing, same_mark, sooner, tail_of}}
+use Rattle.zone_spans.specs.{Placed.{Placed, placed_from, time_of}, declared.front.YearRules.{YearRules}}
+use Rattle.zone_spans.proofs.{FiringLemmas.{int_lt_chain, int_lt_one_way}, Picks.{all_filter, all_sorted, pick, pick_least, pick_length, pick_others, pick_sorted}, PlacedLemmas.{IsAt, Rises, all_at, placed_most, placed_rises, placed_rules}}
 
 -- those of a mark in order
 abbrev front : TimeType → List Placed → List Placed

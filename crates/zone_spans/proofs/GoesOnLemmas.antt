@@ -1,31 +1,15 @@
 -- What the tests of a zone that goes on come to, step by step.
 use Rattle.std.proofs.Common.{◌≡◌, ℕ, zero, suc, ◌+◌, ◌-◌, ◌<◌, ◌≤◌, Bool, true, false, not, ◌&&◌, is_none, int_lt, map, List, [], ◌∷◌, ◌++◌, length, take, drop, get_or, reverse, Option, Some, None, ℤ, pos, All, IsTrue, refl, sym, ap, ◌∙◌, subst, append-nil, arith}
-use Rattle.std.proofs.Math.Seq.{drop-append_seam, take-append_seam}
-use Rattle.std.proofs.lemmas.Bool.{and_parts}
-use Rattle.std.proofs.lemmas.List.Elements.{All-drop}
-use Rattle.std.proofs.lemmas.List.Sums.{AllPass-from_list_all, list_all-from_AllPass}
+use Rattle.std.proofs.{Math.Seq.{drop-append_seam, take-append_seam}, lemmas.Bool.{and_parts}, lemmas.List.Elements.{All-drop}, lemmas.List.Sums.{AllPass-from_list_all, list_all-from_AllPass}}
 use Rattle.std.proofs.lemmas.List.{length-append, length-drop, reverse-reverse, take_all}
-use Rattle.std.specs.List.{list_all}
-use Rattle.std.specs.Option.{option_map_or}
+use Rattle.std.specs.{List.{list_all}, Option.{option_map_or}}
 use Rattle.basics.specs.Sorted.{stable_sort}
-use Rattle.zone_values.specs.Bounds.{are_small_seconds}
-use Rattle.zone_values.specs.declared.change.ChangeTime.{ChangeTime}
+use Rattle.zone_values.specs.{Bounds.{are_small_seconds}, declared.change.ChangeTime.{ChangeTime}}
 use Rattle.zone_table.specs.declared.rule.RuleInfo.{RuleInfo}
-use Rattle.zone_spans.specs.Bounds.{IsSound, IsSoundOver, is_bounded_entry, is_bounded_firing}
-use Rattle.zone_spans.specs.Collapse.{kept_of}
-use Rattle.zone_spans.specs.Cuts.{IsCut}
-use Rattle.zone_spans.specs.Cycle.{seconds_on}
-use Rattle.zone_spans.specs.Entries.{Entry, entry_of, is_sooner, next_start_over, raw_entries_over, sorted_entries_over}
-use Rattle.zone_spans.specs.Firings.{Firing, firings_of_years, years_over}
-use Rattle.zone_spans.specs.GoesOn.{are_cycle_later, dont_fall, ends_by_then, front_of, goes_on, has_settled_lines, is_cycle_later, is_in_order, kept_over, last_goes_on, last_of, some_leaves}
-use Rattle.zone_spans.specs.Later.{first_fired, later_fired, start_after}
-use Rattle.zone_spans.specs.LaterLaws.{ends-by, firings_of_years-split, years_over-ended}
-use Rattle.zone_spans.specs.Lines.{Line}
-use Rattle.zone_spans.specs.Settled.{are_settled}
-use Rattle.zone_spans.specs.Stands.{StandsFor}
-use Rattle.zone_spans.proofs.EntryLemmas.{bounded_map}
-use Rattle.zone_spans.proofs.FoundLemmas.{from_here}
-use Rattle.zone_spans.proofs.StepLemmas.{read_at, two_latest}
+use Rattle.zone_spans.specs.{Bounds.{IsSound, IsSoundOver, is_bounded_entry, is_bounded_firing}, Collapse.{kept_of}, Cuts.{IsCut}, Cycle.{seconds_on}, Entries.{Entry, entry_of, is_sooner, next_start_over, raw_entries_over, sorted_entries_over}}
+use Rattle.zone_spans.specs.{Firings.{Firing, firings_of_years, years_over}, GoesOn.{are_cycle_later, dont_fall, ends_by_then, front_of, goes_on, has_settled_lines, is_cycle_later, is_in_order, kept_over, last_goes_on, last_of, some_leaves}}
+use Rattle.zone_spans.specs.{Later.{first_fired, later_fired, start_after}, LaterLaws.{ends-by, firings_of_years-split, years_over-ended}, Lines.{Line}, Settled.{are_settled}, Stands.{StandsFor}}
+use Rattle.zone_spans.proofs.{EntryLemmas.{bounded_map}, FoundLemmas.{from_here}, StepLemmas.{read_at, two_latest}}
 
 -- ---- the lines but the last, and the last
 pub parts_of : (lines : List Line) (line : Line) → (front_of (lines ++ (line ∷ [])) ≡ lines) × (last_of (lines ++ (line ∷ [])) ≡ Some line)

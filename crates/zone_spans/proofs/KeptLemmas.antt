@@ -1,39 +1,14 @@
 -- Firings that no end cuts are those of a line up to its end, and summaries stand for them.
 use Rattle.std.proofs.Common.{◌≡◌, ℕ, zero, suc, ◌+◌, ◌<◌, ◌≤◌, ◌≤ℤ◌, inl, inr, Bool, true, false, ◌&&◌, cond, if◌then◌else◌, List, [], ◌∷◌, ◌++◌, length, take, filter, Option, Some, None, Result, Ok, Err, ℤ, pos, int_le, int_lt, get_or, IsTrue, refl, sym, ap, ◌∙◌, subst, arith}
-use Rattle.std.proofs.Math.Nat.{eq-or-lt_of_le}
-use Rattle.std.proofs.Math.Seq.{get_or-append_seam}
-use Rattle.std.proofs.lemmas.Int.{ints}
-use Rattle.std.proofs.lemmas.List.{get_or-take, get_or_append_left, length-append, length-take-le, take_more}
-use Rattle.std.proofs.lemmas.List.Folds.{list_all-append, list_all_more}
+use Rattle.std.proofs.{Math.Nat.{eq-or-lt_of_le}, Math.Seq.{get_or-append_seam}, lemmas.Int.{ints}, lemmas.List.{get_or-take, get_or_append_left, length-append, length-take-le, take_more}, lemmas.List.Folds.{list_all-append, list_all_more}}
 use Rattle.std.proofs.lemmas.List.Sums.{AllPass-from_list_all, list_all-from_AllPass}
-use Rattle.std.specs.List.{AllByRecursion, last_or, list_all}
-use Rattle.std.specs.Option.{option_to_list}
-use Rattle.std.specs.Result.{OnOk}
-use Rattle.zone_values.specs.Bounds.{are_small_seconds}
-use Rattle.zone_values.specs.Ends.{time_type, wall}
-use Rattle.zone_values.specs.declared.change.ChangeTime.{ChangeTime}
-use Rattle.zone_values.specs.declared.time.TimeType.{TimeType}
-use Rattle.zone_values.specs.declared.time.TimeType.TheVariants.{Wall, Standard, UTC}
-use Rattle.zone_table.specs.Bounds.{is_bounded_rule}
-use Rattle.zone_table.specs.Moments.{applies_to_year, instant_of, moment}
-use Rattle.zone_table.specs.declared.rule.RuleInfo.{RuleInfo}
-use Rattle.zone_spans.specs.Bounds.{IsSound, is_bounded_firing}
-use Rattle.zone_spans.specs.Fires.{AreSmall, StandFor}
-use Rattle.zone_spans.specs.Firings.{Fired, Firing, earliest, fired, firings_of_years, is_earlier, is_over, year_firings}
-use Rattle.zone_spans.specs.Kept.{AreBelow, AreSummaries, IsLastSummary, IsLimit, IsSummary, summed, unended}
-use Rattle.zone_spans.specs.Lines.{Line}
-use Rattle.zone_spans.specs.Quiet.{AppliesToNone}
-use Rattle.zone_spans.specs.Stands.{StandsFor}
-use Rattle.zone_spans.specs.Windows.{line_end}
-use Rattle.zone_spans.specs.declared.firing.Firings.{Firings}
-use Rattle.zone_spans.specs.declared.kept.Summary.{Summary}
-use Rattle.zone_spans.proofs.BoundLemmas.{both, first, second}
-use Rattle.zone_spans.proofs.ListingLemmas.{last_stands, stands_same}
-use Rattle.zone_spans.proofs.Picks.{all_filter}
-use Rattle.zone_spans.proofs.QuietLemmas.{quiet_years}
-use Rattle.zone_spans.proofs.SoundLemmas.{bounded_rules}
-use Rattle.zone_spans.proofs.YearLemmas.{next_year}
+use Rattle.std.specs.{List.{AllByRecursion, last_or, list_all}, Option.{option_to_list}, Result.{OnOk}}
+use Rattle.zone_values.specs.{Bounds.{are_small_seconds}, Ends.{time_type, wall}, declared.change.ChangeTime.{ChangeTime}, declared.time.TimeType.{TimeType}, declared.time.TimeType.TheVariants.{Wall, Standard, UTC}}
+use Rattle.zone_table.specs.{Bounds.{is_bounded_rule}, Moments.{applies_to_year, instant_of, moment}, declared.rule.RuleInfo.{RuleInfo}}
+use Rattle.zone_spans.specs.{Bounds.{IsSound, is_bounded_firing}, Fires.{AreSmall, StandFor}, Firings.{Fired, Firing, earliest, fired, firings_of_years, is_earlier, is_over, year_firings}}
+use Rattle.zone_spans.specs.{Kept.{AreBelow, AreSummaries, IsLastSummary, IsLimit, IsSummary, summed, unended}, Lines.{Line}, Quiet.{AppliesToNone}, Stands.{StandsFor}, Windows.{line_end}, declared.firing.Firings.{Firings}, declared.kept.Summary.{Summary}}
 use Rattle.zone_spans.specs.Years.{earliest_year, years_limit}
+use Rattle.zone_spans.proofs.{BoundLemmas.{both, first, second}, ListingLemmas.{last_stands, stands_same}, Picks.{all_filter}, QuietLemmas.{quiet_years}, SoundLemmas.{bounded_rules}, YearLemmas.{next_year}}
 
 -- the saving of a rule is small
 abbrev pub HasSmallSaving : RuleInfo → Type 0

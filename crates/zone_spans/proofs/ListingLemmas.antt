@@ -1,17 +1,9 @@
 -- Of the firings before a line's start only the last one matters.
 use Rattle.std.proofs.Common.{◌≡◌, ℕ, suc, ◌+◌, Bool, true, false, not, cond, if◌then◌else◌, List, [], ◌∷◌, ◌++◌, length, nat_lt, filter, find, take, drop, reverse, Option, Some, None, option_map, ℤ, pos, int_lt, int_eq, IsTrue, refl, sym, ap, ◌∙◌, arith, append_assoc}
-use Rattle.std.proofs.Math.Dec.{leb-suc-suc}
-use Rattle.std.proofs.lemmas.Int.{ints}
-use Rattle.std.proofs.lemmas.List.{reverse-append}
-use Rattle.std.proofs.lemmas.List.Folds.{find-append}
-use Rattle.std.specs.List.{last_or, list_all, position_or_len}
-use Rattle.std.specs.Option.{option_or, option_to_list}
-use Rattle.zone_spans.specs.Entries.{at_start, span_of, start_entry}
-use Rattle.zone_spans.specs.Firings.{Firing}
-use Rattle.zone_spans.specs.Listing.{is_at, listed_firings, listed_from, start_firing}
-use Rattle.zone_spans.specs.Stands.{StandsFor}
-use Rattle.zone_spans.proofs.BoundLemmas.{both, first, second}
-use Rattle.zone_spans.proofs.FiringLemmas.{int_lt_one_way}
+use Rattle.std.proofs.{Math.Dec.{leb-suc-suc}, lemmas.Int.{ints}, lemmas.List.{reverse-append}, lemmas.List.Folds.{find-append}}
+use Rattle.std.specs.{List.{last_or, list_all, position_or_len}, Option.{option_or, option_to_list}}
+use Rattle.zone_spans.specs.{Entries.{at_start, span_of, start_entry}, Firings.{Firing}, Listing.{is_at, listed_firings, listed_from, start_firing}, Stands.{StandsFor}}
+use Rattle.zone_spans.proofs.{BoundLemmas.{both, first, second}, FiringLemmas.{int_lt_one_way}}
 
 not_equal : (a b : ℤ) → int_lt a b ≡ true → int_eq a b ≡ false
 not_equal a b h = grind (arith, ints)

@@ -1,14 +1,8 @@
 -- An entry that takes the span of another, and a first entry that goes.
-use Rattle.std.proofs.Common.{◌≡◌, ℕ, suc, ◌+◌, ◌<◌, true, false, cond, List, [], ◌∷◌, ◌++◌, length, get_or, set, take, drop, refl, sym, ap, ◌∙◌, subst, arith, to_z, of_z, w64, SFits}
+use Rattle.std.proofs.{Common.{◌≡◌, ℕ, suc, ◌+◌, ◌<◌, true, false, cond, List, [], ◌∷◌, ◌++◌, length, get_or, set, take, drop, refl, sym, ap, ◌∙◌, subst, arith, to_z, of_z, w64, SFits}, lemmas.Int.{to_z-of_z}}
+use Rattle.std.proofs.{lemmas.List.{length-set, take-set-le, drop-set-lt, get_or-set_same, get_or-set_other, get_or_default}, Math.Seq.{take-suc-set}}
 use Rattle.std.specs.List.{swap, remove}
-use Rattle.std.proofs.lemmas.Int.{to_z-of_z}
-use Rattle.std.proofs.lemmas.List.{length-set, take-set-le, drop-set-lt, get_or-set_same, get_or-set_other, get_or_default}
-use Rattle.std.proofs.Math.Seq.{take-suc-set}
-use Rattle.zone_spans.specs.declared.span.FixedTimespan.{FixedTimespan}
-use Rattle.zone_spans.specs.Collapse.{is_same_span, without_first}
-use Rattle.zone_spans.specs.Entries.{Entry}
-use Rattle.zone_spans.specs.Places.{IsPutAt, IsRespanned}
-use Rattle.zone_spans.proofs.StepLemmas.{read_at}
+use Rattle.zone_spans.{specs.declared.span.FixedTimespan.{FixedTimespan}, specs.Collapse.{is_same_span, without_first}, specs.Entries.{Entry}, specs.Places.{IsPutAt, IsRespanned}, proofs.StepLemmas.{read_at}}
 
 put_at : (xs ys : List Entry) (place from : ℕ) (v : Entry) → place < from → place < length ys → length ys ≡ length xs
     → take place ys ≡ take place xs → drop (from + 1) ys ≡ drop (from + 1) xs → IsPutAt xs (set ys place v) place from v

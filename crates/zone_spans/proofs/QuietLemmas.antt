@@ -1,19 +1,11 @@
 -- Nothing fires before the first year of a ruleset.
-use Rattle.std.proofs.Common.{◌≡◌, ℕ, zero, suc, ◌+◌, ◌<◌, Bool, true, false, not, ◌&&◌, ◌||◌, cond, List, [], ◌∷◌, ◌++◌, length, get_or, take, filter, Option, ℤ, pos, ◌<ℤ◌, refl, sym, ap, ◌∙◌, arith}
-use Rattle.std.proofs.lemmas.List.{take_more}
+use Rattle.std.proofs.{Common.{◌≡◌, ℕ, zero, suc, ◌+◌, ◌<◌, Bool, true, false, not, ◌&&◌, ◌||◌, cond, List, [], ◌∷◌, ◌++◌, length, get_or, take, filter, Option, ℤ, pos, ◌<ℤ◌, refl, sym, ap, ◌∙◌, arith}, lemmas.List.{take_more}}
 use Rattle.std.proofs.lemmas.List.Folds.{list_any-append}
 use Rattle.std.specs.List.{list_any}
 use Rattle.basics.specs.ComparisonLaws.{le_fail}
-use Rattle.zone_values.specs.Days.{is_in_year, named_day}
-use Rattle.zone_values.specs.declared.change.ChangeTime.{ChangeTime}
-use Rattle.zone_values.specs.declared.year.Year.TheVariants.{Number}
-use Rattle.zone_table.specs.Moments.{applies_to_year, is_at_least, is_at_most, last_year}
-use Rattle.zone_table.specs.declared.rule.RuleInfo.{RuleInfo}
-use Rattle.zone_spans.specs.Faults.{is_outside, some_year}
-use Rattle.zone_spans.specs.Firings.{fired, firings_of_years, year_firings}
-use Rattle.zone_spans.specs.Quiet.{AppliesToNone}
-use Rattle.zone_spans.proofs.SoundLemmas.{neither_left}
-use Rattle.zone_spans.specs.Years.{earliest_year}
+use Rattle.zone_values.specs.{Days.{is_in_year, named_day}, declared.change.ChangeTime.{ChangeTime}, declared.year.Year.TheVariants.{Number}}
+use Rattle.zone_table.specs.{Moments.{applies_to_year, is_at_least, is_at_most, last_year}, declared.rule.RuleInfo.{RuleInfo}}
+use Rattle.zone_spans.{specs.Faults.{is_outside, some_year}, specs.Firings.{fired, firings_of_years, year_firings}, specs.Quiet.{AppliesToNone}, proofs.SoundLemmas.{neither_left}, specs.Years.{earliest_year}}
 
 -- a rule does not apply before its first year
 pub too_early : (rule : RuleInfo) (first year : ℤ) → rule.from_year ≡ Number first → year <ℤ first

@@ -1,11 +1,8 @@
 -- What the kept entries in place are, by the treatment of the next one.
-use Rattle.std.proofs.lemmas.List.Elements.{All-set}
-use Rattle.std.specs.List.{swap}
-use Rattle.std.proofs.Common.{All, set, ◌≡◌, ℕ, zero, suc, ◌+◌, ◌<◌, ◌≤◌, true, false, cond, List, [], ◌∷◌, ◌++◌, length, take, drop, reverse, get_or, refl, sym, ap, ◌∙◌, arith, take-suc, drop-cons, pos}
+use Rattle.std.proofs.{lemmas.List.Elements.{All-set}, Common.{All, set, ◌≡◌, ℕ, zero, suc, ◌+◌, ◌<◌, ◌≤◌, true, false, cond, List, [], ◌∷◌, ◌++◌, length, take, drop, reverse, get_or, refl, sym, ap, ◌∙◌, arith, take-suc, drop-cons, pos}}
 use Rattle.std.proofs.lemmas.List.{reverse-append, reverse-reverse, get_or_default, drop_all}
-use Rattle.zone_spans.specs.Entries.{Entry}
-use Rattle.zone_spans.specs.Collapse.{is_same_span, is_no_later, kept_with, kept_of}
-use Rattle.zone_spans.specs.Places.{IsPutAt, IsRespanned, IsMoved, IsStep}
+use Rattle.std.specs.List.{swap}
+use Rattle.zone_spans.specs.{Entries.{Entry}, Collapse.{is_same_span, is_no_later, kept_with, kept_of}, Places.{IsPutAt, IsRespanned, IsMoved, IsStep}}
 
 -- the latest of the first n
 latest : (xs : List Entry) (n p : ℕ) (d : Entry) → n ≡ p + 1 → p < length xs → reverse (take n xs) ≡ get_or xs p d ∷ reverse (take p xs)

@@ -1,13 +1,7 @@
 -- What was tested of more years is known of fewer, and nothing is to be tested of no years.
-use Rattle.std.proofs.Common.{◌≡◌, ℕ, zero, suc, ◌+◌, ◌≤◌, inl, inr, Bool, false, ◌||◌, List, [], ◌∷◌, ℤ, pos, refl, ap, ◌∙◌, arith}
-use Rattle.std.proofs.Math.Nat.{eq-or-lt_of_le}
+use Rattle.std.proofs.{Common.{◌≡◌, ℕ, zero, suc, ◌+◌, ◌≤◌, inl, inr, Bool, false, ◌||◌, List, [], ◌∷◌, ℤ, pos, refl, ap, ◌∙◌, arith}, Math.Nat.{eq-or-lt_of_le}}
 use Rattle.zone_table.specs.declared.rule.RuleInfo.{RuleInfo}
-use Rattle.zone_spans.specs.Faults.{is_outside, some_year}
-use Rattle.zone_spans.specs.Bounds.{IsSound}
-use Rattle.zone_spans.specs.Lines.{Line}
-use Rattle.zone_spans.specs.Tested.{NoneLeaves}
-use Rattle.zone_spans.proofs.SoundLemmas.{neither_left, neither_right, no_years}
-use Rattle.zone_spans.specs.Years.{earliest_year}
+use Rattle.zone_spans.{specs.Faults.{is_outside, some_year}, specs.Bounds.{IsSound}, specs.Lines.{Line}, specs.Tested.{NoneLeaves}, proofs.SoundLemmas.{neither_left, neither_right, no_years}, specs.Years.{earliest_year}}
 
 -- what holds in none of the years holds in none of the first of them
 fewer_years : (test : ℤ → Bool) (k n : ℕ) → k ≤ n → some_year test n ≡ false → some_year test k ≡ false

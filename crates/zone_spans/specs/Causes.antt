@@ -1,8 +1,6 @@
 -- Faults beside what makes them.
 use Rattle.std.specs.Prelude.{◌≡◌, Bool, true, Result, Err}
-use Rattle.zone_spans.specs.declared.fault.SpanFault.{SpanFault}
-use Rattle.zone_spans.specs.declared.fault.SpanFault.TheVariants.{UnknownRuleset, NoMemory}
-use Rattle.zone_spans.specs.declared.span.FixedTimespanSet.{FixedTimespanSet}
+use Rattle.zone_spans.specs.declared.{fault.SpanFault.{SpanFault}, fault.SpanFault.TheVariants.{UnknownRuleset, NoMemory}, span.FixedTimespanSet.{FixedTimespanSet}}
 
 -- want of memory, or a ruleset that is not there
 abbrev pub IsUnknown : SpanFault → Bool → Type 0

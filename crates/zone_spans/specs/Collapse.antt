@@ -1,9 +1,7 @@
 -- The collapse of entries, and its law.
-use Rattle.std.specs.Prelude.{Bool, ◌&&◌, List, [], ◌∷◌, reverse, ◌+ℤ◌, ◌<ℤ◌, ◌≤ℤ◌, int_le, if◌then◌else◌}
-use Rattle.std.specs.Ordering.{int_eq}
+use Rattle.std.specs.{Prelude.{Bool, ◌&&◌, List, [], ◌∷◌, reverse, ◌+ℤ◌, ◌<ℤ◌, ◌≤ℤ◌, int_le, if◌then◌else◌}, Ordering.{int_eq}}
 use Rattle.basics.specs.Bytes.{are_same_bytes}
-use Rattle.zone_spans.specs.declared.span.FixedTimespan.{FixedTimespan}
-use Rattle.zone_spans.specs.Entries.{Entry, total}
+use Rattle.zone_spans.specs.{declared.span.FixedTimespan.{FixedTimespan}, Entries.{Entry, total}}
 
 abbrev pub is_same_span : FixedTimespan → FixedTimespan → Bool
 is_same_span a b = int_eq a.utc_offset b.utc_offset && int_eq a.dst_offset b.dst_offset && are_same_bytes a.name b.name

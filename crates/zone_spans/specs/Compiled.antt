@@ -1,15 +1,8 @@
 -- The set of spans that a zone's lines give, or why there is none.
 use Rattle.std.specs.Prelude.{◌≡◌, ℕ, List, Option, Some, None, Result, Ok, Err}
 use Rattle.zone_table.specs.declared.zone.ZoneInfo.{ZoneInfo}
-use Rattle.zone_spans.specs.Collapse.{collapsed}
-use Rattle.zone_spans.specs.Entries.{Entry, first_span, sorted_entries_over}
-use Rattle.zone_spans.specs.Faults.{schedule_fault_over}
-use Rattle.zone_spans.specs.Lines.{Line, Rulesets, zone_lines}
-use Rattle.zone_spans.specs.Years.{most_years}
-use Rattle.zone_spans.specs.declared.fault.SpanFault.{SpanFault}
-use Rattle.zone_spans.specs.declared.fault.SpanFault.TheVariants.{NoStandardSpan, NoMemory}
-use Rattle.zone_spans.specs.declared.span.FixedTimespan.{FixedTimespan}
-use Rattle.zone_spans.specs.declared.span.FixedTimespanSet.{FixedTimespanSet}
+use Rattle.zone_spans.specs.{Collapse.{collapsed}, Entries.{Entry, first_span, sorted_entries_over}, Faults.{schedule_fault_over}, Lines.{Line, Rulesets, zone_lines}, Years.{most_years}, declared.fault.SpanFault.{SpanFault}}
+use Rattle.zone_spans.specs.declared.{fault.SpanFault.TheVariants.{NoStandardSpan, NoMemory}, span.FixedTimespan.{FixedTimespan}, span.FixedTimespanSet.{FixedTimespanSet}}
 
 -- the first span, and what the collapse keeps of the entries
 abbrev pub set_of : Option FixedTimespan → List Entry → Result FixedTimespanSet SpanFault

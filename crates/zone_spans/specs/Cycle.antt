@@ -1,7 +1,6 @@
 -- What stands at the same place of the next cycle of the Gregorian calendar: 400 years, or 146,097 days.
 use Rattle.std.specs.Prelude.{map, ℕ, ℤ, pos, ◌+ℤ◌}
-use Rattle.zone_spans.specs.Entries.{Entry}
-use Rattle.zone_spans.specs.Firings.{Firing, Fired}
+use Rattle.zone_spans.specs.{Entries.{Entry}, Firings.{Firing, Fired}}
 
 abbrev pub cycle_years : ℕ
 cycle_years = 400

@@ -1,14 +1,8 @@
 -- The entries of a zone.
-use Rattle.std.specs.Prelude.{ℕ, Bool, List, [], ◌∷◌, ◌++◌, map, find, Option, Some, None, option_map, ℤ, pos, ◌+ℤ◌, int_lt, if◌then◌else◌}
-use Rattle.std.specs.Ordering.{int_eq}
+use Rattle.std.specs.{Prelude.{ℕ, Bool, List, [], ◌∷◌, ◌++◌, map, find, Option, Some, None, option_map, ℤ, pos, ◌+ℤ◌, int_lt, if◌then◌else◌}, Ordering.{int_eq}}
 use Rattle.zone_table.specs.Formats.{abbreviation}
 use Rattle.basics.specs.Sorted.{stable_sort}
-use Rattle.zone_spans.specs.Windows.{line_end}
-use Rattle.zone_spans.specs.Lines.{Line, is_ruled, fixed_saving}
-use Rattle.zone_spans.specs.Firings.{Firing, line_firings_over}
-use Rattle.zone_spans.specs.Listing.{listed_firings, start_firing}
-use Rattle.zone_spans.specs.Years.{most_years}
-use Rattle.zone_spans.specs.declared.span.FixedTimespan.{FixedTimespan}
+use Rattle.zone_spans.specs.{Windows.{line_end}, Lines.{Line, is_ruled, fixed_saving}, Firings.{Firing, line_firings_over}, Listing.{listed_firings, start_firing}, Years.{most_years}, declared.span.FixedTimespan.{FixedTimespan}}
 
 -- a second from 1970 on, and what is in force from then on
 abbrev pub Entry : Type 0

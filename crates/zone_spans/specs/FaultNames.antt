@@ -1,7 +1,6 @@
 -- The names of what keeps a zone from having a schedule.
 use Rattle.std.specs.Prelude.{ℕ, List, codes}
-use Rattle.zone_spans.specs.declared.fault.SpanFault.{SpanFault}
-use Rattle.zone_spans.specs.declared.fault.SpanFault.TheVariants.{UnknownRuleset, MissingUntil, YearRange, RuleYears, DayRange, NoStandardSpan, NoMemory}
+use Rattle.zone_spans.specs.declared.fault.SpanFault.{SpanFault, TheVariants.{UnknownRuleset, MissingUntil, YearRange, RuleYears, DayRange, NoStandardSpan, NoMemory}}
 
 abbrev pub fault_name : SpanFault → List ℕ
 fault_name UnknownRuleset = codes "UnknownRuleset"

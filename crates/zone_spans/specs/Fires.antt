@@ -1,11 +1,7 @@
 -- What has fired, beside what is due.
-use Rattle.std.specs.Prelude.{◌≡◌, ◌++◌, ℤ, Option, IsTrue}
-use Rattle.std.specs.List.{list_all}
+use Rattle.std.specs.{Prelude.{◌≡◌, ◌++◌, ℤ, Option, IsTrue}, List.{list_all}}
 use Rattle.zone_values.specs.Bounds.{are_small_seconds}
-use Rattle.zone_spans.specs.Bounds.{is_bounded_firing}
-use Rattle.zone_spans.specs.Firings.{Fired}
-use Rattle.zone_spans.specs.Stands.{StandsFor}
-use Rattle.zone_spans.specs.declared.firing.Firings.{Firings}
+use Rattle.zone_spans.specs.{Bounds.{is_bounded_firing}, Firings.{Fired}, Stands.{StandsFor}, declared.firing.Firings.{Firings}}
 
 pub record Fires (firings : Firings) (due : Fired) : Type 0 where
   pub fired : firings.fired.items ≡ due.0

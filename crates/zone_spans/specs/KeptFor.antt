@@ -1,8 +1,6 @@
 -- What is kept for lines of a ruleset under an offset.
 use Rattle.std.specs.Prelude.{◌≡◌, ℕ, ◌≤◌}
-use Rattle.zone_spans.specs.Kept.{AreSummaries}
-use Rattle.zone_spans.specs.Lines.{Line}
-use Rattle.zone_spans.specs.declared.kept.Kept.{Kept}
+use Rattle.zone_spans.specs.{Kept.{AreSummaries}, Lines.{Line}, declared.kept.Kept.{Kept}}
 
 -- its summaries are those of its rules under its offset
 abbrev pub IsKept : Kept → Type 0

@@ -1,11 +1,7 @@
 -- What a zone's last line fires past the first years.
 use Rattle.std.specs.Prelude.{ℕ, zero, suc, ◌+◌, List, [], ◌∷◌, ◌++◌, map, Option, None, ℤ, pos}
 use Rattle.zone_table.specs.declared.rule.RuleInfo.{RuleInfo}
-use Rattle.zone_spans.specs.Entries.{Entry, entry_of, start_entry, next_start_over}
-use Rattle.zone_spans.specs.Firings.{Firing, Fired, firings_of_years, year_firings}
-use Rattle.zone_spans.specs.Lines.{Line}
-use Rattle.zone_spans.specs.Listing.{listed_firings}
-use Rattle.zone_spans.specs.Years.{earliest_year}
+use Rattle.zone_spans.specs.{Entries.{Entry, entry_of, start_entry, next_start_over}, Firings.{Firing, Fired, firings_of_years, year_firings}, Lines.{Line}, Listing.{listed_firings}, Years.{earliest_year}}
 
 -- of k years from the year with that place on, begun with that saving
 unfoldable pub firings_from : ℕ → ℤ → List RuleInfo → ℤ → ℕ → Fired

@@ -1,8 +1,5 @@
 -- Which firings of a line become entries, and the firing whose saving and name the line starts with.
-use Rattle.std.specs.Prelude.{Bool, nat_lt, List, length, ◌++◌, reverse, filter, find, take, drop, Option, Some, None, ℤ, pos, int_lt, if◌then◌else◌}
-use Rattle.std.specs.List.{position_or_len}
-use Rattle.std.specs.Option.{option_or}
-use Rattle.std.specs.Ordering.{int_eq}
+use Rattle.std.specs.{Prelude.{Bool, nat_lt, List, length, ◌++◌, reverse, filter, find, take, drop, Option, Some, None, ℤ, pos, int_lt, if◌then◌else◌}, List.{position_or_len}, Option.{option_or}, Ordering.{int_eq}}
 use Rattle.zone_spans.specs.Firings.{Firing}
 
 abbrev pub is_at : ℤ → Firing → Bool

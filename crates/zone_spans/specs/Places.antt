@@ -1,7 +1,6 @@
 -- What a step of the collapse leaves in place.
 use Rattle.std.specs.Prelude.{◌≡◌, ℕ, ◌+◌, List, ◌++◌, ◌∷◌, [], length, take, drop, reverse, slice_index_or}
-use Rattle.zone_spans.specs.Entries.{Entry}
-use Rattle.zone_spans.specs.Collapse.{kept_with}
+use Rattle.zone_spans.specs.{Entries.{Entry}, Collapse.{kept_with}}
 
 -- the list has changed at `place`, and at `from`, of which nothing is told
 pub record IsPutAt (xs ys : List Entry) (place from : ℕ) (e : Entry) : Type 0 where

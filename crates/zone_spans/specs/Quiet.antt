@@ -1,8 +1,6 @@
 -- Years in which no rule applies.
-use Rattle.std.specs.Prelude.{◌≡◌, ℕ, ◌+◌, ◌<◌, false, List, pos}
-use Rattle.std.specs.List.{list_any}
-use Rattle.zone_table.specs.Moments.{applies_to_year}
-use Rattle.zone_table.specs.declared.rule.RuleInfo.{RuleInfo}
+use Rattle.std.specs.{Prelude.{◌≡◌, ℕ, ◌+◌, ◌<◌, false, List, pos}, List.{list_any}}
+use Rattle.zone_table.specs.{Moments.{applies_to_year}, declared.rule.RuleInfo.{RuleInfo}}
 use Rattle.zone_spans.specs.Years.{earliest_year}
 
 -- none of the rules applies to one of the first n years from the earliest on

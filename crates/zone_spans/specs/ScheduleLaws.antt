@@ -1,7 +1,5 @@
 -- The total in force is one of the schedule's.
-use Rattle.std.specs.Prelude.{◌≡◌, Bool, true, false, cond, List, [], ◌∷◌, filter, ℤ, pos, ◌*ℤ◌, int_le}
-use Rattle.std.specs.List.{list_all}
-use Rattle.std.proofs.lemmas.Bool.{and_parts}
+use Rattle.std.{specs.Prelude.{◌≡◌, Bool, true, false, cond, List, [], ◌∷◌, filter, ℤ, pos, ◌*ℤ◌, int_le}, specs.List.{list_all}, proofs.lemmas.Bool.{and_parts}}
 use Rattle.civil_base.specs.Ranges.{is_offset}
 use Rattle.zone_spans.specs.Schedules.{Schedule, last_total, total_at, is_in_offset_range}
 

@@ -1,15 +1,8 @@
 -- The schedule of a zone, and the offset that it has in force.
-use Rattle.std.specs.Prelude.{ℕ, zero, suc, Bool, ◌&&◌, List, [], ◌∷◌, map, filter, Result, Ok, Err, ℤ, pos, ◌-ℤ◌, ◌*ℤ◌, int_le}
-use Rattle.std.specs.List.{list_all}
-use Rattle.std.specs.Ordering.{int_eq}
-use Rattle.civil_base.specs.Instants.{instant_at}
-use Rattle.civil_base.specs.Ranges.{greatest_offset, is_offset}
+use Rattle.std.specs.{Prelude.{ℕ, zero, suc, Bool, ◌&&◌, List, [], ◌∷◌, map, filter, Result, Ok, Err, ℤ, pos, ◌-ℤ◌, ◌*ℤ◌, int_le}, List.{list_all}, Ordering.{int_eq}}
+use Rattle.civil_base.specs.{Instants.{instant_at}, Ranges.{greatest_offset, is_offset}}
 use Rattle.zone_table.specs.declared.zone.ZoneInfo.{ZoneInfo}
-use Rattle.zone_spans.specs.Compiled.{compiled, compiled_over}
-use Rattle.zone_spans.specs.Entries.{total}
-use Rattle.zone_spans.specs.Lines.{Rulesets}
-use Rattle.zone_spans.specs.declared.fault.SpanFault.{SpanFault}
-use Rattle.zone_spans.specs.declared.span.FixedTimespanSet.{FixedTimespanSet}
+use Rattle.zone_spans.specs.{Compiled.{compiled, compiled_over}, Entries.{total}, Lines.{Rulesets}, declared.fault.SpanFault.{SpanFault}, declared.span.FixedTimespanSet.{FixedTimespanSet}}
 
 -- the total offset before the first shift, and the shifts: each a second since 1970-01-01 00:00:00 UTC and the total from then on
 pub record Schedule : Type 0 where

@@ -1,9 +1,6 @@
 -- Firings that may take the place of others.
 use Rattle.std.specs.Prelude.{◌≡◌, List, ◌++◌, Option, ℤ}
-use Rattle.zone_spans.specs.Entries.{start_entry}
-use Rattle.zone_spans.specs.Firings.{Firing}
-use Rattle.zone_spans.specs.Lines.{Line}
-use Rattle.zone_spans.specs.Listing.{listed_firings}
+use Rattle.zone_spans.specs.{Entries.{start_entry}, Firings.{Firing}, Lines.{Line}, Listing.{listed_firings}}
 
 -- whatever follows, a line with that start lists the same, and has the same entry at its start
 pub record StandsFor (start : Option ℤ) (fired due : List Firing) : Type 0 where

@@ -1,8 +1,6 @@
 -- What is tested of a ruleset.
 use Rattle.std.specs.Prelude.{◌≡◌, ℕ}
-use Rattle.zone_spans.specs.Lines.{Line}
-use Rattle.zone_spans.specs.Tested.{NoneLeaves}
-use Rattle.zone_spans.specs.declared.fault.Tested.{Tested}
+use Rattle.zone_spans.specs.{Lines.{Line}, Tested.{NoneLeaves}, declared.fault.Tested.{Tested}}
 
 -- in none of its years does the day of one of its rules lie in another year
 abbrev pub IsTested : Tested → Type 0

@@ -1,18 +1,9 @@
 //! What keeps a zone from having a schedule, and how it is tested.
-ghost use Rattle.std.specs.Prelude.{◌≡◌, ◌≤◌, IfOk, IsTrue, false, is_none, ℕ, ◌+◌, ◌<◌, ◌<ℤ◌, ◌∷◌, [], pos, ◌≤ℤ◌, true};
-ghost use Rattle.std.specs.List.{list_all, list_any};
-ghost use Rattle.zone_table.specs.Moments.{has_years};
-ghost use Rattle.zone_spans.specs.Bounds.{is_bounded_line};
-ghost use Rattle.zone_spans.specs.Faults.{all_but_last, lacks_years, line_fault, ends_in_no_year, leaves_year_over, ends_outside, is_outside, some_year};
-ghost use Rattle.zone_spans.specs.Years.{years_limit, earliest_year};
-ghost use Rattle.zone_spans.specs.Quiet.{AppliesToNone};
-ghost use Rattle.std.specs.Option.{option_map_or};
-ghost use Rattle.zone_values.specs.Days.{has_day_of_month};
-ghost use Rattle.zone_values.specs.Ends.{end_day, end_year, is_dated_year};
-ghost use Rattle.zone_table.specs.Bounds.{is_bounded_rule};
-ghost use Rattle.zone_spans.specs.Several.{AreAll};
-ghost use Rattle.zone_spans.specs.Tested.{NoneLeaves};
-ghost use Rattle.zone_spans.specs.TestedFor.{HasRulesOf, IsTested};
+ghost use Rattle.std.specs.{Prelude.{◌≡◌, ◌≤◌, IfOk, IsTrue, false, is_none, ℕ, ◌+◌, ◌<◌, ◌<ℤ◌, ◌∷◌, [], pos, ◌≤ℤ◌, true}, List.{list_all, list_any}, Option.{option_map_or}};
+ghost use Rattle.zone_table.specs.{Moments.{has_years}, Bounds.{is_bounded_rule}};
+ghost use Rattle.zone_spans.specs.{Bounds.{is_bounded_line}, Faults.{all_but_last, lacks_years, line_fault, ends_in_no_year, leaves_year_over, ends_outside, is_outside, some_year}, Years.{years_limit, earliest_year}, Quiet.{AppliesToNone}, Several.{AreAll}};
+ghost use Rattle.zone_spans.specs.{Tested.{NoneLeaves}, TestedFor.{HasRulesOf, IsTested}};
+ghost use Rattle.zone_values.specs.{Days.{has_day_of_month}, Ends.{end_day, end_year, is_dated_year}};
 
 use crate::several::{Serve, Several};
 use crate::transitions::Line;

@@ -1,8 +1,5 @@
 //! What fires, and what has fired so far.
-ghost use Rattle.std.specs.Prelude.{◌≡◌, IfOk, [], pos, int_lt, IsTrue};
-ghost use Rattle.std.specs.List.{list_all};
-ghost use Rattle.std.specs.Option.{option_to_list};
-ghost use Rattle.std.specs.Ordering.{int_eq};
+ghost use Rattle.std.specs.{Prelude.{◌≡◌, IfOk, [], pos, int_lt, IsTrue}, List.{list_all}, Option.{option_to_list}, Ordering.{int_eq}};
 ghost use Rattle.zone_spans.specs.Listing.{is_at};
 
 use std::alloc::{AllocError, Global};

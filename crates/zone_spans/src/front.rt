@@ -1,10 +1,8 @@
 //! The rules that apply to a year, by the marks of their times, and what fires first of them.
-ghost use Rattle.std.specs.Prelude.{◌≡◌, All, IfOk, IfSome, IsTrue, [], pos, ◌≤ℤ◌};
-ghost use Rattle.std.specs.Option.{option_copied};
+ghost use Rattle.std.specs.{Prelude.{◌≡◌, All, IfOk, IfSome, IsTrue, [], pos, ◌≤ℤ◌}, Option.{option_copied}};
 ghost use Rattle.basics.specs.Sorted.{stable_sort};
 ghost use Rattle.zone_values.specs.Bounds.{are_small_seconds};
-ghost use Rattle.zone_spans.specs.Bounds.{can_fire, has_moment, is_bounded_firing, is_end, is_small};
-ghost use Rattle.zone_spans.specs.Fronts.{by_mark, first_of, fires_sooner, fronts_of, head_of, in_order, is_below, left, next_firing, sooner, tail_of, with_placed};
+ghost use Rattle.zone_spans.specs.{Bounds.{can_fire, has_moment, is_bounded_firing, is_end, is_small}, Fronts.{by_mark, first_of, fires_sooner, fronts_of, head_of, in_order, is_below, left, next_firing, sooner, tail_of, with_placed}};
 ghost use Rattle.zone_spans.specs.Placed.{placed_at, placed_from, time_of};
 
 use crate::firing::Firing;

@@ -1,12 +1,7 @@
 //! Whether a zone goes on for ever: what is tested of its lines, over one cycle of 400 years.
-ghost use Rattle.std.specs.Prelude.{◌≡◌, ◌≤ℤ◌, ◌++◌, ◌∷◌, [], All, IfOk, IsTrue, nat_abs, nat_lt, pos};
-ghost use Rattle.std.specs.List.{list_all, list_any};
-ghost use Rattle.zone_table.specs.Bounds.{is_bounded_rule};
-ghost use Rattle.zone_table.specs.Moments.{has_years, is_at_most, last_year};
-ghost use Rattle.zone_spans.specs.Bounds.{IsSoundOver, is_end};
-ghost use Rattle.zone_spans.specs.GoesOn.{ends_by_then, goes_on, has_settled_lines, is_before_2101, is_still, last_goes_on, some_leaves};
-ghost use Rattle.zone_spans.specs.Settled.{are_settled, is_lasting, is_max, is_settled, is_settled_end};
-ghost use Rattle.zone_spans.specs.Years.{most_years};
+ghost use Rattle.std.specs.{Prelude.{◌≡◌, ◌≤ℤ◌, ◌++◌, ◌∷◌, [], All, IfOk, IsTrue, nat_abs, nat_lt, pos}, List.{list_all, list_any}};
+ghost use Rattle.zone_table.specs.{Bounds.{is_bounded_rule}, Moments.{has_years, is_at_most, last_year}};
+ghost use Rattle.zone_spans.specs.{Bounds.{IsSoundOver, is_end}, GoesOn.{ends_by_then, goes_on, has_settled_lines, is_before_2101, is_still, last_goes_on, some_leaves}, Settled.{are_settled, is_lasting, is_max, is_settled, is_settled_end}, Years.{most_years}};
 
 use crate::entries::raw_entries;
 use crate::fault::Tested;

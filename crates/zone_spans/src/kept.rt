@@ -1,17 +1,9 @@
 //! What the first years of a ruleset fire under an offset, cut by no end: it is the same for each line of them. Of the firings
 //! before a line's start only the last one matters, so a summary of each year takes their place.
-ghost use Rattle.std.specs.Prelude.{◌≡◌, ◌+◌, ◌<◌, ◌≤◌, ◌≤ℤ◌, None, Some, ℤ, true, IfOk, IsTrue, length, int_le, pos};
-ghost use Rattle.std.specs.List.{last_or, list_all};
+ghost use Rattle.std.specs.{Prelude.{◌≡◌, ◌+◌, ◌<◌, ◌≤◌, ◌≤ℤ◌, None, Some, ℤ, true, IfOk, IsTrue, length, int_le, pos}, List.{last_or, list_all}};
 ghost use Rattle.zone_values.specs.Bounds.{are_small_seconds};
-ghost use Rattle.zone_spans.specs.Bounds.{IsSound, IsSoundOver, is_end};
-ghost use Rattle.zone_spans.specs.Fires.{StandFor};
-ghost use Rattle.zone_spans.specs.Firings.{firings_of_years, line_firings_over};
-ghost use Rattle.zone_spans.specs.Kept.{AreBelow, AreSummaries, IsLastSummary, IsLimit};
-ghost use Rattle.zone_spans.specs.KeptFor.{IsFor, IsKept};
-ghost use Rattle.zone_spans.specs.Lines.{is_ruled};
-ghost use Rattle.zone_spans.specs.Quiet.{AppliesToNone};
-ghost use Rattle.zone_spans.specs.Several.{AreAll};
-ghost use Rattle.zone_spans.specs.Years.{years_limit};
+ghost use Rattle.zone_spans.specs.{Bounds.{IsSound, IsSoundOver, is_end}, Fires.{StandFor}, Firings.{firings_of_years, line_firings_over}, Kept.{AreBelow, AreSummaries, IsLastSummary, IsLimit}, KeptFor.{IsFor, IsKept}, Lines.{is_ruled}, Quiet.{AppliesToNone}};
+ghost use Rattle.zone_spans.specs.{Several.{AreAll}, Years.{years_limit}};
 
 use crate::fault::years_before_all;
 use crate::firing::{Firing, Firings};

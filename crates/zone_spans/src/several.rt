@@ -1,8 +1,6 @@
 //! Values that serve several lines each, of which one is in use.
 ghost use Rattle.std.specs.Prelude.{◌≡◌, ◌<◌, ◌≤◌, ℕ, true, IfOk, IfSome, IsTrue, length, slice_index_or};
-ghost use Rattle.zone_spans.specs.Lines.{Line};
-ghost use Rattle.zone_spans.specs.Several.{AreAll};
-ghost use Rattle.zone_spans.specs.Years.{years_limit};
+ghost use Rattle.zone_spans.specs.{Lines.{Line}, Several.{AreAll}, Years.{years_limit}};
 
 use crate::transitions::Line;
 use std::alloc::{AllocError, Global};

@@ -1,9 +1,6 @@
 //! Spans of time in which an offset is in force, and those that are left of a list where nothing changes.
-ghost use Rattle.std.specs.Prelude.{◌≡◌, IfOk, IsTrue, ◌<◌, ◌≤◌, ◌+◌, ◌+ℤ◌, length, All, reverse, []};
-ghost use Rattle.std.specs.List.{list_all};
-ghost use Rattle.zone_spans.specs.Bounds.{is_small, is_bounded_span, is_bounded_entry, is_bounded, IsSmallEntry};
-ghost use Rattle.zone_spans.specs.Entries.{total, Entry};
-ghost use Rattle.zone_spans.specs.Collapse.{is_same_span, is_no_later, kept_of, without_first, collapsed, LocalEndsRise, EntryTimesDontFall};
+ghost use Rattle.std.specs.{Prelude.{◌≡◌, IfOk, IsTrue, ◌<◌, ◌≤◌, ◌+◌, ◌+ℤ◌, length, All, reverse, []}, List.{list_all}};
+ghost use Rattle.zone_spans.specs.{Bounds.{is_small, is_bounded_span, is_bounded_entry, is_bounded, IsSmallEntry}, Entries.{total, Entry}, Collapse.{is_same_span, is_no_later, kept_of, without_first, collapsed, LocalEndsRise, EntryTimesDontFall}};
 ghost use Rattle.zone_spans.specs.Places.{IsRespanned, IsMoved, IsStep};
 
 use crate::entries::Entries;

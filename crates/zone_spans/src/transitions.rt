@@ -1,20 +1,9 @@
 //! The spans of a table's zones, line by line.
-ghost use Rattle.std.specs.Prelude.{◌≡◌, ◌≤◌, ℕ, All, IfErr, IfOk, IfSome, IsTrue, List, Ok, Option, Some, None, find, option_map, ◌<◌, drop, false, length, not, true};
-ghost use Rattle.std.specs.FinMap.{get};
-ghost use Rattle.std.specs.List.{list_all, list_any};
-ghost use Rattle.zone_table.specs.BoundedTables.{IsBoundedTable};
-ghost use Rattle.zone_table.specs.Bounds.{is_bounded_info, is_bounded_rule};
-ghost use Rattle.zone_table.specs.Resolved.{resolved_in};
-ghost use Rattle.zone_table.specs.declared.zone.ZoneInfo.{ZoneInfo};
-ghost use Rattle.zone_spans.specs.Bounds.{IsSoundOver, is_bounded, is_bounded_entry, is_bounded_line, is_bounded_span};
-ghost use Rattle.zone_spans.specs.Causes.{IsDue, IsUnknown};
-ghost use Rattle.zone_spans.specs.Collapse.{LocalEndsRise, EntryTimesDontFall};
-ghost use Rattle.zone_spans.specs.Compiled.{TellsCompiled, compiled, compiled_over, set_of_lines_over};
-ghost use Rattle.zone_spans.specs.Entries.{first_span, is_standard};
-ghost use Rattle.zone_spans.specs.GoesOn.{TellsGoing, goes_on};
-ghost use Rattle.zone_spans.specs.Lines.{Rulesets, end_before, fixed_saving, is_known, is_ruled, rules_named, zone_lines};
-ghost use Rattle.zone_spans.specs.Years.{years_limit};
-ghost use Rattle.zone_spans.specs.Faults.{is_unknown};
+ghost use Rattle.std.specs.{Prelude.{◌≡◌, ◌≤◌, ℕ, All, IfErr, IfOk, IfSome, IsTrue, List, Ok, Option, Some, None, find, option_map, ◌<◌, drop, false, length, not, true}, FinMap.{get}, List.{list_all, list_any}};
+ghost use Rattle.zone_table.specs.{BoundedTables.{IsBoundedTable}, Bounds.{is_bounded_info, is_bounded_rule}, Resolved.{resolved_in}, declared.zone.ZoneInfo.{ZoneInfo}};
+ghost use Rattle.zone_spans.specs.{Bounds.{IsSoundOver, is_bounded, is_bounded_entry, is_bounded_line, is_bounded_span}, Causes.{IsDue, IsUnknown}, Collapse.{LocalEndsRise, EntryTimesDontFall}};
+ghost use Rattle.zone_spans.specs.{Compiled.{TellsCompiled, compiled, compiled_over, set_of_lines_over}, Entries.{first_span, is_standard}, GoesOn.{TellsGoing, goes_on}, Lines.{Rulesets, end_before, fixed_saving, is_known, is_ruled, rules_named, zone_lines}};
+ghost use Rattle.zone_spans.specs.{Years.{years_limit}, Faults.{is_unknown}};
 
 use crate::entries::{first_span, sorted_entries};
 use crate::fault::{SpanFault, line_fault};

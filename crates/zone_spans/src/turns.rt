@@ -1,17 +1,8 @@
 //! Whether what a zone's last line fires turns: it comes again after 400 years, in order, with the same latest changes at both ends.
-ghost use Rattle.std.specs.Prelude.{◌≡◌, ◌++◌, ◌∷◌, [], ◌&&◌, not, All, IfOk, IsTrue, None, find, is_some, reverse, pos, int_lt, true};
-ghost use Rattle.std.specs.List.{list_all};
-ghost use Rattle.std.specs.Option.{option_map_or};
-ghost use Rattle.std.specs.Ordering.{int_eq};
+ghost use Rattle.std.specs.{Prelude.{◌≡◌, ◌++◌, ◌∷◌, [], ◌&&◌, not, All, IfOk, IsTrue, None, find, is_some, reverse, pos, int_lt, true}, List.{list_all}, Option.{option_map_or}, Ordering.{int_eq}};
 ghost use Rattle.basics.specs.Sorted.{stable_sort};
-ghost use Rattle.zone_spans.specs.Bounds.{IsSmallEntry, IsSound, IsSoundOver, is_bounded_entry, is_bounded_firing};
-ghost use Rattle.zone_spans.specs.Collapse.{kept_of};
-ghost use Rattle.zone_spans.specs.Cycle.{seconds_on};
-ghost use Rattle.zone_spans.specs.Entries.{is_sooner, next_start_over, raw_entries_over};
-ghost use Rattle.zone_spans.specs.GoesOn.{are_cycle_later, cycle_entries, dont_fall, is_apart, is_cycle_later, is_in_order, kept_over, turns};
-ghost use Rattle.zone_spans.specs.Cuts.{IsCut};
-ghost use Rattle.zone_spans.specs.Later.{first_fired, start_after};
-ghost use Rattle.zone_spans.specs.Years.{most_years};
+ghost use Rattle.zone_spans.specs.{Bounds.{IsSmallEntry, IsSound, IsSoundOver, is_bounded_entry, is_bounded_firing}, Collapse.{kept_of}, Cycle.{seconds_on}, Entries.{is_sooner, next_start_over, raw_entries_over}};
+ghost use Rattle.zone_spans.specs.{GoesOn.{are_cycle_later, cycle_entries, dont_fall, is_apart, is_cycle_later, is_in_order, kept_over, turns}, Cuts.{IsCut}, Later.{first_fired, start_after}, Years.{most_years}};
 
 use crate::entries::{Entries, first_standard_firing, next_start, push_all, raw_entries, sort};
 use crate::firing::Firings;

@@ -1,13 +1,7 @@
 //! The firings of a line, year by year.
-ghost use Rattle.std.specs.Prelude.{◌≡◌, ◌<◌, ◌≤◌, ◌-◌, ◌≤ℤ◌, pos, neg_ℤ, min, nat_abs, ℤ, IfOk, IsTrue, Option, Some};
-ghost use Rattle.std.specs.List.{list_all};
+ghost use Rattle.std.specs.{Prelude.{◌≡◌, ◌<◌, ◌≤◌, ◌-◌, ◌≤ℤ◌, pos, neg_ℤ, min, nat_abs, ℤ, IfOk, IsTrue, Option, Some}, List.{list_all}};
 ghost use Rattle.zone_values.specs.Bounds.{are_small_seconds};
-ghost use Rattle.zone_spans.specs.Bounds.{IsSound, can_fire, is_end};
-ghost use Rattle.zone_spans.specs.Fires.{AreSmall, Fires, after};
-ghost use Rattle.zone_spans.specs.Firings.{firings_of_years, is_over, year_firings, years_over};
-ghost use Rattle.zone_spans.specs.Stands.{StandsFor};
-ghost use Rattle.zone_spans.specs.Windows.{line_end};
-ghost use Rattle.zone_spans.specs.Years.{earliest_year, years_limit};
+ghost use Rattle.zone_spans.specs.{Bounds.{IsSound, can_fire, is_end}, Fires.{AreSmall, Fires, after}, Firings.{firings_of_years, is_over, year_firings, years_over}, Stands.{StandsFor}, Windows.{line_end}, Years.{earliest_year, years_limit}};
 
 use crate::firing::Firings;
 use crate::front::YearRules;

@@ -1,13 +1,6 @@
 -- What a bounded table has at a name.
-use Rattle.std.proofs.Common.{◌≡◌, ℕ, List, Option, Some, sym, subst, ◌∙◌}
-use Rattle.std.specs.Prelude.{IsTrue, IfSome}
-use Rattle.std.specs.FinMap.{get}
-use Rattle.std.specs.List.{list_all}
-use Rattle.zone_table.specs.BoundedTables.{IsBoundedTable}
-use Rattle.zone_table.specs.Bounds.{is_bounded_rule, is_bounded_info}
-use Rattle.zone_table.specs.declared.rule.RuleInfo.{RuleInfo}
-use Rattle.zone_table.specs.declared.table.Table.{Table}
-use Rattle.zone_table.specs.declared.zone.ZoneInfo.{ZoneInfo}
+use Rattle.std.{proofs.Common.{◌≡◌, ℕ, List, Option, Some, sym, subst, ◌∙◌}, specs.Prelude.{IsTrue, IfSome}, specs.FinMap.{get}, specs.List.{list_all}}
+use Rattle.zone_table.specs.{BoundedTables.{IsBoundedTable}, Bounds.{is_bounded_rule, is_bounded_info}, declared.rule.RuleInfo.{RuleInfo}, declared.table.Table.{Table}, declared.zone.ZoneInfo.{ZoneInfo}}
 
 pub bounded_at : (table : Table) (name : List ℕ) (found : Option (List ZoneInfo)) (lines : List ZoneInfo)
     → found ≡ get table.zonesets name → found ≡ Some lines → IsBoundedTable table → IsTrue (list_all is_bounded_info lines)

@@ -1,20 +1,11 @@
 -- A table of values that are bounded is bounded.
-use Rattle.std.proofs.Common.{◌≡◌, ℕ, Bool, true, false, cond, List, [], ◌∷◌, ◌++◌, Option, reverse, refl, sym, ap, ◌∙◌, subst}
-use Rattle.std.specs.Prelude.{IsTrue, IfSome}
-use Rattle.std.specs.List.{list_all, AllPass}
-use Rattle.std.proofs.lemmas.List.{reverse-append}
-use Rattle.std.proofs.lemmas.List.Folds.{list_all-append}
-use Rattle.std.proofs.lemmas.List.Sums.{list_all-from_AllPass}
-use Rattle.basics.specs.Listed.{listed}
-use Rattle.zone_values.specs.Bounds.{is_bounded_line}
-use Rattle.zone_values.specs.Values.{LineValue, space, zone, continuation, rule, link}
+use Rattle.std.proofs.{Common.{◌≡◌, ℕ, Bool, true, false, cond, List, [], ◌∷◌, ◌++◌, Option, reverse, refl, sym, ap, ◌∙◌, subst}, lemmas.List.{reverse-append}, lemmas.List.Folds.{list_all-append}, lemmas.List.Sums.{list_all-from_AllPass}}
 use Rattle.std.proofs.lemmas.Bool.{and_from, and_parts}
+use Rattle.std.specs.{Prelude.{IsTrue, IfSome}, List.{list_all, AllPass}}
+use Rattle.basics.specs.Listed.{listed}
+use Rattle.zone_values.specs.{Bounds.{is_bounded_line}, Values.{LineValue, space, zone, continuation, rule, link}}
 use Rattle.zone_table.proofs.OwnedBounds.{owned_info-bounded}
-use Rattle.zone_table.specs.BoundedTables.{IsBoundedTable}
-use Rattle.zone_table.specs.Bounds.{is_bounded_rule, is_bounded_info}
-use Rattle.zone_table.specs.Joined.{rules_of, zone_of}
-use Rattle.zone_table.specs.Tables.{IsTableOfLatest, IsTableOf}
-use Rattle.zone_table.specs.declared.table.Table.{Table}
+use Rattle.zone_table.specs.{BoundedTables.{IsBoundedTable}, Bounds.{is_bounded_rule, is_bounded_info}, Joined.{rules_of, zone_of}, Tables.{IsTableOfLatest, IsTableOf}, declared.table.Table.{Table}}
 
 -- a list passes with an item at its end that may be left out
 more_pass : {X : Type 0} (test : X → Bool) (xs : List X) (here : Bool) (x : X)

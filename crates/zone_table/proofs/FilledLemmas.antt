@@ -1,10 +1,7 @@
 -- What `replace` makes of a text with `%s` in it.
-use Rattle.std.proofs.Common.{◌≡◌, ℕ, zero, suc, ◌<◌, ◌≤◌, Bool, true, false, ◌&&◌, ◌==◌, subst, List, [], ◌∷◌, ◌++◌, length, take, drop, refl, sym, ap, ◌∙◌, codes, arith, inl, inr, Some, None, take-append-drop, Bor}
-use Rattle.std.specs.Str.Pattern.{FindsText, LacksTextAt}
-use Rattle.std.specs.Str.Replace.{ReplacesMatches}
-use Rattle.std.proofs.Math.Bool.{and-false}
-use Rattle.std.proofs.lemmas.Bool.{cases_Bool}
-use Rattle.std.proofs.lemmas.Grind.{common_steps}
+use Rattle.std.proofs.{Common.{◌≡◌, ℕ, zero, suc, ◌<◌, ◌≤◌, Bool, true, false, ◌&&◌, ◌==◌, subst, List, [], ◌∷◌, ◌++◌, length, take, drop, refl, sym, ap, ◌∙◌, codes, arith, inl, inr, Some, None, take-append-drop, Bor}, Math.Bool.{and-false}}
+use Rattle.std.proofs.lemmas.{Bool.{cases_Bool}, Grind.{common_steps}}
+use Rattle.std.specs.Str.{Pattern.{FindsText, LacksTextAt}, Replace.{ReplacesMatches}}
 use Rattle.zone_table.specs.Formats.{is_placeholder, filled}
 
 -- two bytes that begin a text without `%s` at its front are not `%s`

@@ -1,7 +1,5 @@
 -- What a search for `%s` and for a slash says of a text.
-use Rattle.std.proofs.Common.{◌≡◌, ℕ, Bool, true, false, ◌||◌, List, [], ◌∷◌, ◌++◌, refl, sym, ap, ◌∙◌, codes, arith, true≢false}
-use Rattle.std.proofs.Math.Bool.{or-true}
-use Rattle.std.specs.Str.Iter.{HasSubslice}
+use Rattle.std.{proofs.Common.{◌≡◌, ℕ, Bool, true, false, ◌||◌, List, [], ◌∷◌, ◌++◌, refl, sym, ap, ◌∙◌, codes, arith, true≢false}, proofs.Math.Bool.{or-true}, specs.Str.Iter.{HasSubslice}}
 use Rattle.zone_table.specs.Formats.{is_placeholder, has_placeholder}
 
 pub has_placeholder-within : (before after : List ℕ) → has_placeholder (before ++ (codes "%s" ++ after)) ≡ true

@@ -1,7 +1,6 @@
 -- The definitions on worked rows.
 use Rattle.std.specs.Prelude.{◌≡◌, [], ◌∷◌, map, pos, negsuc, Some, None, true, false, codes, refl}
-use Rattle.zone_table.specs.Formats.{format_of, filled, has_placeholder, abbreviation, is_constant, constant_text}
-use Rattle.zone_table.specs.declared.zone.Format.TheVariants.{Constant, Alternate, Placeholder}
+use Rattle.zone_table.specs.{Formats.{format_of, filled, has_placeholder, abbreviation, is_constant, constant_text}, declared.zone.Format.TheVariants.{Constant, Alternate, Placeholder}}
 
 placeholder_named : format_of (codes "E%sT") ≡ Placeholder (codes "E%sT")
 unfolding format_of has_placeholder

@@ -1,15 +1,7 @@
 -- Worked rows of what lines join to, whatever their rules and zone lines say. Each list has the latest first.
-use Rattle.std.specs.Prelude.{◌≡◌, ℕ, List, [], ◌∷◌, map, Option, Some, None, codes, string_bytes, refl}
-use Rattle.std.specs.declared.alloc.Global.{Global}
-use Rattle.std.specs.declared.string.String.{String}
-use Rattle.zone_values.specs.declared.change.ChangeTime.{ChangeTime}
-use Rattle.zone_values.specs.declared.time.TimeSpec.{TimeSpec}
-use Rattle.zone_values.specs.Values.{SavingValue, no_saving, multiple, InfoValue, RuleValue, space, zone, continuation, rule, link}
-use Rattle.zone_table.specs.Built.{refusal_of}
-use Rattle.zone_table.specs.Joined.{rules_of, zone_of, owner}
-use Rattle.zone_table.specs.Owned.{owned_rule, owned_info}
-use Rattle.zone_table.specs.Refusals.{surprise_continuation_line, unknown_ruleset, duplicate_link, duplicate_zone, refusal, Accepted}
-use Rattle.zone_table.specs.Resolved.{resolved}
+use Rattle.std.specs.{Prelude.{◌≡◌, ℕ, List, [], ◌∷◌, map, Option, Some, None, codes, string_bytes, refl}, declared.alloc.Global.{Global}, declared.string.String.{String}}
+use Rattle.zone_values.specs.{declared.change.ChangeTime.{ChangeTime}, declared.time.TimeSpec.{TimeSpec}, Values.{SavingValue, no_saving, multiple, InfoValue, RuleValue, space, zone, continuation, rule, link}}
+use Rattle.zone_table.specs.{Built.{refusal_of}, Joined.{rules_of, zone_of, owner}, Owned.{owned_rule, owned_info}, Refusals.{surprise_continuation_line, unknown_ruleset, duplicate_link, duplicate_zone, refusal, Accepted}, Resolved.{resolved}}
 use Rattle.zone_table.specs.declared.error.Error.TheVariants as error
 
 -- a zone line with that saving

@@ -1,29 +1,14 @@
 -- What a sort and a removal of doubles make of children, by the order that is derived for them.
-use Rattle.std.proofs.Common.{◌≡◌, ℕ, Bool, true, false, cond, List, [], ◌∷◌, map, refl, sym, ap, ◌∙◌, subst}
-use Rattle.std.specs.Borrow.{Bor}
-use Rattle.std.specs.Prelude.{◌||◌, ◌&&◌}
-use Rattle.std.specs.Str.{bytes_eq}
-use Rattle.std.specs.declared.cmp.Ordering.{Ordering}
-use Rattle.std.specs.Cmp.{Equal-is, on_total, both_tied}
-use Rattle.std.specs.List.{dedup, dedup_from, list_any}
-use Rattle.std.specs.List.Retain.{IsFiltered, DiffersFromLast}
-use Rattle.std.specs.List.Sorted.{IsPermutation, IsSorted, IsStrictlySortedBy}
-use Rattle.std.specs.Ordering.{is_eq, ordering_then}
-use Rattle.std.proofs.lemmas.List.Filters.{dedup_is}
-use Rattle.std.proofs.lemmas.List.Kept.{IsStrictlySortedBy-dedup}
-use Rattle.std.proofs.lemmas.List.Sorted.{list_any-IsPermutation}
+use Rattle.std.proofs.{Common.{◌≡◌, ℕ, Bool, true, false, cond, List, [], ◌∷◌, map, refl, sym, ap, ◌∙◌, subst}, lemmas.List.Filters.{dedup_is}, lemmas.List.Kept.{IsStrictlySortedBy-dedup}, lemmas.List.Sorted.{list_any-IsPermutation}}
 use Rattle.std.proofs.lemmas.Map.Text.{is_eq-slice_cmp}
-use Rattle.basics.specs.InOrder.{in_order}
-use Rattle.basics.specs.Keyed.{text_cmp}
-use Rattle.basics.specs.InOrderLaws.{in_order_is, or_twice, rises-viewed, sorted_from_rises}
+use Rattle.std.specs.{Borrow.{Bor}, Prelude.{◌||◌, ◌&&◌}, Str.{bytes_eq}, declared.cmp.Ordering.{Ordering}, Cmp.{Equal-is, on_total, both_tied}, List.{dedup, dedup_from, list_any}, List.Retain.{IsFiltered, DiffersFromLast}}
+use Rattle.std.specs.{List.Sorted.{IsPermutation, IsSorted, IsStrictlySortedBy}, Ordering.{is_eq, ordering_then}}
+use Rattle.basics.specs.{InOrder.{in_order}, Keyed.{text_cmp}, InOrderLaws.{in_order_is, or_twice, rises-viewed, sorted_from_rises}}
+use Rattle.zone_table.{specs.NameTree.{child_cmp}, specs.Shown.{child_value}, specs.Placed.{placed_cmp, placed_value}, proofs.TreeLemmas.{any-map, placed_total, placed_same}}
 use Rattle.zone_table.specs.contracts.structure.ChildOrd.TheImpl as child_order
 use Rattle.zone_table.specs.contracts.structure.ChildPartialEq.TheImpl as child_equality
 use Rattle.zone_table.specs.declared.structure.Child as code
 use Rattle.zone_table.specs.declared.structure.Child.TheVariants as child
-use Rattle.zone_table.specs.NameTree.{child_cmp}
-use Rattle.zone_table.specs.Shown.{child_value}
-use Rattle.zone_table.specs.Placed.{placed_cmp, placed_value}
-use Rattle.zone_table.proofs.TreeLemmas.{any-map, placed_total, placed_same}
 
 child_tied : (x y : code.Child) → child_order.ghosts.cmp x y ≡ child_cmp (child_value x) (child_value y)
 child_tied (child.Submodule a) (child.Submodule b) = refl

@@ -1,15 +1,8 @@
 -- Where texts are cut at a slash.
-use Rattle.std.proofs.Common.{◌≡◌, ℕ, suc, ◌==◌, eqb-true, lit<, length-drop, ◌+◌, ◌-◌, ◌<◌, ◌≤◌, Bool, true, false, not, cond, List, [], ◌∷◌, length, take, drop, get_or, refl, sym, ap, ◌∙◌, arith, Some, None}
-use Rattle.std.specs.Prelude.{◌||◌, ◌≢◌}
-use Rattle.std.specs.List.{list_any, position_or_len, prefix_len, suffix_len, before_first, after_first, before_last, after_last}
-use Rattle.std.specs.Str.{NoCharPasses}
-use Rattle.std.specs.Str.Pattern.{HasCharAt}
-use Rattle.std.proofs.lemmas.List.{get_or-drop}
-use Rattle.std.proofs.lemmas.List.Folds.{list_any_at}
-use Rattle.std.proofs.lemmas.List.Sums.{suffix_len_is}
-use Rattle.std.proofs.lemmas.Str.Pattern.{NoCharPasses-char}
-use Rattle.zone_table.specs.Formats.{is_slash}
-use Rattle.zone_table.specs.NameTree.{submodule, time_zone, submodule_of, time_zone_of}
+use Rattle.std.proofs.{Common.{◌≡◌, ℕ, suc, ◌==◌, eqb-true, lit<, length-drop, ◌+◌, ◌-◌, ◌<◌, ◌≤◌, Bool, true, false, not, cond, List, [], ◌∷◌, length, take, drop, get_or, refl, sym, ap, ◌∙◌, arith, Some, None}, lemmas.List.{get_or-drop}}
+use Rattle.std.proofs.lemmas.{List.Folds.{list_any_at}, List.Sums.{suffix_len_is}, Str.Pattern.{NoCharPasses-char}}
+use Rattle.std.specs.{Prelude.{◌||◌, ◌≢◌}, List.{list_any, position_or_len, prefix_len, suffix_len, before_first, after_first, before_last, after_last}, Str.{NoCharPasses}, Str.Pattern.{HasCharAt}}
+use Rattle.zone_table.specs.{Formats.{is_slash}, NameTree.{submodule, time_zone, submodule_of, time_zone_of}}
 
 -- the first place where a test passes
 passes_at_place : (test : ℕ → Bool) (xs : List ℕ) → position_or_len test xs < length xs → list_any test xs ≡ true

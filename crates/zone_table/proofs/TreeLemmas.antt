@@ -1,33 +1,12 @@
 -- The hierarchy of children in order, run by run.
-use Rattle.std.proofs.Common.{◌≡◌, ℕ, zero, suc, ◌-◌, ◌<◌, Bool, true, false, cond, List, [], ◌∷◌, ◌++◌, map, length, get_or, refl, sym, ap, ◌∙◌, subst, arith, length-append}
-use Rattle.std.specs.Borrow.{Bor}
-use Rattle.std.specs.Prelude.{◌||◌, ◌&&◌}
-use Rattle.std.specs.declared.cmp.Ordering.{Ordering}
-use Rattle.std.specs.declared.cmp.Ordering.TheVariants.{Less, Equal, Greater}
-use Rattle.std.specs.Cmp.{IsTotalOrder, on_total, then_total, tied_itself}
-use Rattle.std.specs.Cmp.Lexicographic.{nat_list_cmp_total, bytes_decides}
-use Rattle.std.specs.FinMap.{IsAntisymmetric, slice_cmp-IsAntisymmetric, nat_cmp-IsAntisymmetric}
-use Rattle.std.specs.List.{AllByRecursion, AllAdjacentBelow, IsChunkByPrefix, filter, flat_map, list_any}
-use Rattle.std.specs.List.Sorted.{IsPermutation, IsStrictlySortedBy}
-use Rattle.std.specs.Ordering.{is_eq, ordering_reverse, ordering_then}
-use Rattle.std.specs.Str.{bytes_eq}
-use Rattle.std.proofs.lemmas.List.{append-nil, map-append, get_or_append_left}
-use Rattle.std.proofs.lemmas.List.Elements.{filter-append}
-use Rattle.std.proofs.lemmas.List.Folds.{list_any-append}
-use Rattle.std.proofs.lemmas.List.Sorted.{list_any-IsPermutation}
-use Rattle.std.proofs.lemmas.Map.Keys.{sorted_head, sorted_tail}
-use Rattle.std.proofs.lemmas.Map.Text.{is_eq-slice_cmp}
-use Rattle.std.proofs.Math.Bool.{or_assoc}
-use Rattle.std.proofs.Math.Numerals.{add-one}
-use Rattle.std.proofs.Math.Seq.{get_or-append_seam}
-use Rattle.basics.specs.LogicLaws.{every_weaker}
-use Rattle.basics.specs.InOrder.{in_order}
-use Rattle.basics.specs.Keyed.{text_cmp}
-use Rattle.basics.specs.InOrderLaws.{in_order_is, same_in_order, sorted_in_order, any-in_order, below-in_order, or_twice}
-use Rattle.zone_table.specs.NameTree.{ChildValue, submodule, time_zone, child_cmp, EntryValue, children_in, children_of, tree_of}
-use Rattle.zone_table.specs.Shown.{child_value}
-use Rattle.zone_table.specs.Placed.{placed_cmp, placed_value}
-use Rattle.zone_table.specs.declared.structure.Child.{Child}
+use Rattle.std.proofs.{Common.{◌≡◌, ℕ, zero, suc, ◌-◌, ◌<◌, Bool, true, false, cond, List, [], ◌∷◌, ◌++◌, map, length, get_or, refl, sym, ap, ◌∙◌, subst, arith, length-append}, lemmas.List.{append-nil, map-append, get_or_append_left}}
+use Rattle.std.proofs.{lemmas.List.Elements.{filter-append}, lemmas.List.Folds.{list_any-append}, lemmas.List.Sorted.{list_any-IsPermutation}, lemmas.Map.Keys.{sorted_head, sorted_tail}, lemmas.Map.Text.{is_eq-slice_cmp}, Math.Bool.{or_assoc}}
+use Rattle.std.proofs.Math.{Numerals.{add-one}, Seq.{get_or-append_seam}}
+use Rattle.std.specs.{Borrow.{Bor}, Prelude.{◌||◌, ◌&&◌}, declared.cmp.Ordering.{Ordering}, declared.cmp.Ordering.TheVariants.{Less, Equal, Greater}, Cmp.{IsTotalOrder, on_total, then_total, tied_itself}, Cmp.Lexicographic.{nat_list_cmp_total, bytes_decides}}
+use Rattle.std.specs.{FinMap.{IsAntisymmetric, slice_cmp-IsAntisymmetric, nat_cmp-IsAntisymmetric}, List.{AllByRecursion, AllAdjacentBelow, IsChunkByPrefix, filter, flat_map, list_any}, List.Sorted.{IsPermutation, IsStrictlySortedBy}}
+use Rattle.std.specs.{Ordering.{is_eq, ordering_reverse, ordering_then}, Str.{bytes_eq}}
+use Rattle.basics.specs.{LogicLaws.{every_weaker}, InOrder.{in_order}, Keyed.{text_cmp}, InOrderLaws.{in_order_is, same_in_order, sorted_in_order, any-in_order, below-in_order, or_twice}}
+use Rattle.zone_table.specs.{NameTree.{ChildValue, submodule, time_zone, child_cmp, EntryValue, children_in, children_of, tree_of}, Shown.{child_value}, Placed.{placed_cmp, placed_value}, declared.structure.Child.{Child}}
 
 -- ---- the orders
 

@@ -1,8 +1,7 @@
 -- Tables whose numbers are small.
 use Rattle.std.specs.List.{list_all}
 use Rattle.basics.specs.Keyed.{EachPasses}
-use Rattle.zone_table.specs.Bounds.{is_bounded_rule, is_bounded_info}
-use Rattle.zone_table.specs.declared.table.Table.{Table}
+use Rattle.zone_table.specs.{Bounds.{is_bounded_rule, is_bounded_info}, declared.table.Table.{Table}}
 
 -- each rule of each ruleset and each line of each zone is bounded
 pub record IsBoundedTable (table : Table) : Type 0 where

@@ -1,9 +1,6 @@
 -- The formats of abbreviations.
-use Rattle.std.specs.Prelude.{ℕ, ◌==◌, ℤ, pos, Bool, true, false, ◌&&◌, ◌||◌, List, [], ◌∷◌, ◌++◌, Option, unwrap_or, if◌then◌else◌}
-use Rattle.std.specs.Ordering.{int_eq}
-use Rattle.std.specs.List.{before_first, after_first, list_any}
-use Rattle.zone_table.specs.declared.zone.Format.{Format}
-use Rattle.zone_table.specs.declared.zone.Format.TheVariants.{Constant, Alternate, Placeholder}
+use Rattle.std.specs.{Prelude.{ℕ, ◌==◌, ℤ, pos, Bool, true, false, ◌&&◌, ◌||◌, List, [], ◌∷◌, ◌++◌, Option, unwrap_or, if◌then◌else◌}, Ordering.{int_eq}, List.{before_first, after_first, list_any}}
+use Rattle.zone_table.specs.declared.zone.Format.{Format, TheVariants.{Constant, Alternate, Placeholder}}
 
 abbrev pub is_slash : ℕ → Bool
 is_slash byte = byte == 47

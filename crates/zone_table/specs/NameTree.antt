@@ -1,12 +1,7 @@
 -- The hierarchy of names: what stands under each part of a name.
-use Rattle.std.specs.Prelude.{ℕ, List, [], ◌∷◌, Option, Some, None, map, if◌then◌else◌}
-use Rattle.std.specs.Option.{option_to_list}
-use Rattle.std.specs.declared.cmp.Ordering.{Ordering}
-use Rattle.std.specs.declared.cmp.Ordering.TheVariants.{Less, Greater}
-use Rattle.std.specs.List.{filter, flat_map, list_any, before_first, after_first, before_last, after_last}
-use Rattle.std.specs.Str.{bytes_eq}
-use Rattle.basics.specs.InOrder.{in_order}
-use Rattle.basics.specs.Keyed.{text_cmp}
+use Rattle.std.specs.{Prelude.{ℕ, List, [], ◌∷◌, Option, Some, None, map, if◌then◌else◌}, Option.{option_to_list}, declared.cmp.Ordering.{Ordering}, declared.cmp.Ordering.TheVariants.{Less, Greater}}
+use Rattle.std.specs.{List.{filter, flat_map, list_any, before_first, after_first, before_last, after_last}, Str.{bytes_eq}}
+use Rattle.basics.specs.{InOrder.{in_order}, Keyed.{text_cmp}}
 use Rattle.zone_table.specs.Formats.{is_slash}
 
 -- what stands under a part

@@ -1,11 +1,8 @@
 -- The owned forms of what lines say.
-use Rattle.zone_values.specs.Seconds.{seconds_of}
-use Rattle.zone_values.specs.Values.{SavingValue, no_saving, one_off, multiple, InfoValue, RuleValue}
-use Rattle.zone_table.specs.Formats.{format_of}
-use Rattle.zone_table.specs.declared.rule.RuleInfo.{RuleInfo}
+use Rattle.zone_values.specs.{Seconds.{seconds_of}, Values.{SavingValue, no_saving, one_off, multiple, InfoValue, RuleValue}}
+use Rattle.zone_table.specs.{Formats.{format_of}, declared.rule.RuleInfo.{RuleInfo}, declared.zone.ZoneInfo.{ZoneInfo}}
 use Rattle.zone_table.specs.declared.zone.Saving as code
 use Rattle.zone_table.specs.declared.zone.Saving.TheVariants as saving
-use Rattle.zone_table.specs.declared.zone.ZoneInfo.{ZoneInfo}
 
 -- times are seconds, and a time of day keeps its clock beside them
 abbrev pub owned_rule : RuleValue → RuleInfo

@@ -1,12 +1,7 @@
 -- Children beside their parts, with their texts as bytes.
-use Rattle.std.specs.Prelude.{ℕ, List}
-use Rattle.std.specs.declared.cmp.Ordering.{Ordering}
-use Rattle.std.specs.Borrow.{Bor}
-use Rattle.std.specs.Ordering.{ordering_then}
+use Rattle.std.specs.{Prelude.{ℕ, List}, declared.cmp.Ordering.{Ordering}, Borrow.{Bor}, Ordering.{ordering_then}}
 use Rattle.basics.specs.Keyed.{text_cmp}
-use Rattle.zone_table.specs.NameTree.{ChildValue, child_cmp}
-use Rattle.zone_table.specs.Shown.{child_value}
-use Rattle.zone_table.specs.declared.structure.Child.{Child}
+use Rattle.zone_table.specs.{NameTree.{ChildValue, child_cmp}, Shown.{child_value}, declared.structure.Child.{Child}}
 
 abbrev pub placed_value : Bor (List ℕ) × Child → List ℕ × ChildValue
 placed_value placed = (placed.0.now, child_value placed.1)

@@ -1,6 +1,5 @@
 -- Why a value may not follow the values before it, given the latest first.
-use Rattle.std.specs.Prelude.{◌≡◌, ℕ, Bool, List, [], ◌∷◌, Option, Some, None, is_some, if◌then◌else◌}
-use Rattle.std.specs.Option.{option_or}
+use Rattle.std.specs.{Prelude.{◌≡◌, ℕ, Bool, List, [], ◌∷◌, Option, Some, None, is_some, if◌then◌else◌}, Option.{option_or}}
 use Rattle.basics.specs.Listed.{listed}
 use Rattle.zone_values.specs.Values.{SavingValue, multiple, LineValue, zone, continuation, link}
 use Rattle.zone_table.specs.Joined.{rules_of, zone_of, link_of, owner}

@@ -1,13 +1,8 @@
 -- The look-up of a zone, through one link at most.
-use Rattle.std.specs.Prelude.{◌≡◌, ℕ, List, Option, option_and_then}
-use Rattle.std.specs.Option.{option_or}
-use Rattle.std.specs.FinMap.{get}
+use Rattle.std.specs.{Prelude.{◌≡◌, ℕ, List, Option, option_and_then}, Option.{option_or}, FinMap.{get}}
 use Rattle.basics.specs.Listed.{listed}
 use Rattle.zone_values.specs.Values.{LineValue}
-use Rattle.zone_table.specs.Joined.{zone_of, link_of}
-use Rattle.zone_table.specs.Tables.{IsTableOfLatest}
-use Rattle.zone_table.specs.declared.table.Table.{Table}
-use Rattle.zone_table.specs.declared.zone.ZoneInfo.{ZoneInfo}
+use Rattle.zone_table.specs.{Joined.{zone_of, link_of}, Tables.{IsTableOfLatest}, declared.table.Table.{Table}, declared.zone.ZoneInfo.{ZoneInfo}}
 
 -- the zone of that name, else the zone that the link of that name leads to, of values given the latest first
 abbrev pub resolved : List LineValue → List ℕ → Option (List ZoneInfo)

@@ -1,9 +1,8 @@
 -- The entries of the hierarchy of names, with their texts as bytes.
 use Rattle.std.specs.Prelude.{map}
-use Rattle.zone_table.specs.NameTree.{ChildValue, submodule, time_zone, EntryValue}
+use Rattle.zone_table.specs.{NameTree.{ChildValue, submodule, time_zone, EntryValue}, declared.structure.TableStructureEntry.{TableStructureEntry}}
 use Rattle.zone_table.specs.declared.structure.Child as code
 use Rattle.zone_table.specs.declared.structure.Child.TheVariants as child
-use Rattle.zone_table.specs.declared.structure.TableStructureEntry.{TableStructureEntry}
 
 abbrev pub child_value : code.Child → ChildValue
 child_value (child.Submodule name) = submodule name.now

@@ -1,10 +1,7 @@
 //! Rules, and the moments at which they fire.
 ghost use Rattle.std.specs.Prelude.{◌≡◌, pos, neg_ℤ, ◌≤ℤ◌, ◌+ℤ◌, ◌*ℤ◌, IfOk, IsTrue, option_map, ◌-ℤ◌};
-ghost use Rattle.zone_values.specs.Bounds.{are_small_seconds};
-ghost use Rattle.zone_values.specs.Days.{has_day_of_month, is_in_year, named_day};
-ghost use Rattle.zone_values.specs.Values.{rule_value};
-ghost use Rattle.zone_table.specs.Moments.{is_number, has_last_year, has_years, is_at_most, is_at_least, applies_to_year, moment, instant_of};
-ghost use Rattle.zone_table.specs.Owned.{owned_rule};
+ghost use Rattle.zone_values.specs.{Bounds.{are_small_seconds}, Days.{has_day_of_month, is_in_year, named_day}, Values.{rule_value}};
+ghost use Rattle.zone_table.specs.{Moments.{is_number, has_last_year, has_years, is_at_most, is_at_least, applies_to_year, moment, instant_of}, Owned.{owned_rule}};
 
 use basics::Text;
 use std::alloc::{AllocError, Global};

@@ -1,16 +1,8 @@
 //! The hierarchy of names.
-ghost use Rattle.std.specs.Prelude.{◌≡◌, ℕ, List, ◌++◌, IfOk, OnOk, map as each};
-ghost use Rattle.std.specs.Iterator.{YieldsFirstBy, item_count};
-ghost use Rattle.std.specs.List.{flat_map};
-ghost use Rattle.std.specs.List.Sorted.{IsStrictlySortedBy};
-ghost use Rattle.std.specs.Option.{option_map};
-ghost use Rattle.basics.specs.InOrder.{in_order};
-ghost use Rattle.basics.specs.Keyed.{text_cmp};
-ghost use Rattle.std.specs.Map.Iter.{deref};
+ghost use Rattle.std.specs.{Prelude.{◌≡◌, ℕ, List, ◌++◌, IfOk, OnOk, map as each}, Iterator.{YieldsFirstBy, item_count}, List.{flat_map}, List.Sorted.{IsStrictlySortedBy}, Option.{option_map}, Map.Iter.{deref}};
 ghost use Rattle.std.specs.FinMap as map;
-ghost use Rattle.zone_table.specs.NameTree.{children_in, name_tree, submodule_of, tree_of, time_zone_of};
-ghost use Rattle.zone_table.specs.Shown.{entry_value};
-ghost use Rattle.zone_table.specs.Placed.{placed_cmp, placed_value};
+ghost use Rattle.basics.specs.{InOrder.{in_order}, Keyed.{text_cmp}};
+ghost use Rattle.zone_table.specs.{NameTree.{children_in, name_tree, submodule_of, tree_of, time_zone_of}, Shown.{entry_value}, Placed.{placed_cmp, placed_value}};
 
 use crate::table::Table;
 use std::alloc::{AllocError, Global};
@@ -43,8 +35,7 @@ pub struct TableStructure<'t> {
 
 impl<'t> Model for TableStructure<'t> {
     ghost use Rattle.std.specs.Prelude.{List, map as each};
-    ghost use Rattle.zone_table.specs.NameTree.{EntryValue};
-    ghost use Rattle.zone_table.specs.Shown.{entry_value};
+    ghost use Rattle.zone_table.specs.{NameTree.{EntryValue}, Shown.{entry_value}};
 
     ghost Value = { List EntryValue };
 
@@ -58,10 +49,8 @@ pub struct Iter<'t> {
 }
 
 impl<'t> Model for Iter<'t> {
-    ghost use Rattle.std.specs.Prelude.{List, map as each};
-    ghost use Rattle.std.specs.Vec.Iter.{into_iter_items};
-    ghost use Rattle.zone_table.specs.NameTree.{EntryValue};
-    ghost use Rattle.zone_table.specs.Shown.{entry_value};
+    ghost use Rattle.std.specs.{Prelude.{List, map as each}, Vec.Iter.{into_iter_items}};
+    ghost use Rattle.zone_table.specs.{NameTree.{EntryValue}, Shown.{entry_value}};
 
     ghost Value = { List EntryValue };
 

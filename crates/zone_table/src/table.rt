@@ -1,18 +1,9 @@
 //! The table, and how one is built from lines.
-ghost use Rattle.std.specs.Prelude.{◌≡◌, ◌↔◌, IsTrue, IfSome, [], List, reverse, OnOk, OnErr, IfErr};
-ghost use Rattle.std.specs.FinMap.{get};
-ghost use Rattle.std.specs.List.{list_all, AllPass};
-ghost use Rattle.std.specs.Option.{option_copied};
-ghost use Rattle.zone_values.specs.Values.{LineValue, line_value};
-ghost use Rattle.basics.specs.Keyed.{EachPasses};
-ghost use Rattle.zone_table.specs.BoundedTables.{IsBoundedTable};
-ghost use Rattle.zone_table.specs.Bounds.{is_bounded_rule, is_bounded_info};
-ghost use Rattle.zone_table.specs.Resolved.{resolved, resolved_in};
-ghost use Rattle.zone_table.specs.Tables.{IsTableOf};
-ghost use Rattle.zone_values.specs.Bounds.{is_bounded_line};
+ghost use Rattle.std.specs.{Prelude.{◌≡◌, ◌↔◌, IsTrue, IfSome, [], List, reverse, OnOk, OnErr, IfErr}, FinMap.{get}, List.{list_all, AllPass}, Option.{option_copied}};
+ghost use Rattle.zone_values.specs.{Values.{LineValue, line_value}, Bounds.{is_bounded_line}};
 ghost use Rattle.zone_values.specs.declared.line.Line.TheVariants as kind;
-ghost use Rattle.zone_table.specs.Built.{StandsFor, Joins, IsCause};
-ghost use Rattle.zone_table.specs.declared.error.Error.TheVariants.{NoMemory};
+ghost use Rattle.basics.specs.Keyed.{EachPasses};
+ghost use Rattle.zone_table.specs.{BoundedTables.{IsBoundedTable}, Bounds.{is_bounded_rule, is_bounded_info}, Resolved.{resolved, resolved_in}, Tables.{IsTableOf}, Built.{StandsFor, Joins, IsCause}, declared.error.Error.TheVariants.{NoMemory}};
 
 use crate::bounds::{are_bounded_lines, are_bounded_rules};
 use crate::error::Error;

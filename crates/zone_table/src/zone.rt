@@ -1,8 +1,7 @@
 //! The lines of zones, and their formats.
 ghost use Rattle.std.specs.Prelude.{◌≡◌, IfOk, IsTrue, option_map, string_bytes};
 ghost use Rattle.zone_values.specs.Values.{info_value, saving_value};
-ghost use Rattle.zone_table.specs.Owned.{owned_info, owned_saving};
-ghost use Rattle.zone_table.specs.Formats.{format_of, has_placeholder, filled, abbreviation, is_constant, constant_text};
+ghost use Rattle.zone_table.specs.{Owned.{owned_info, owned_saving}, Formats.{format_of, has_placeholder, filled, abbreviation, is_constant, constant_text}};
 
 use basics::Text;
 use std::alloc::{AllocError, Global};

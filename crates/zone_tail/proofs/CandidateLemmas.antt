@@ -1,10 +1,6 @@
 -- What is asked of a candidate, of each kind.
 use Rattle.std.proofs.Common.{◌≡◌, ◌↔◌, ℤ, pos, ◌≤ℤ◌, ◌<ℤ◌, sym, subst}
-use Rattle.zone_tail.specs.Candidates.{total_by, IsFixed}
-use Rattle.zone_tail.specs.Rules.{rule_total}
-use Rattle.zone_tail.specs.declared.candidate.Candidate.{Candidate}
-use Rattle.zone_tail.specs.declared.candidate.Candidate.TheVariants.{Fixed, Ruled}
-use Rattle.zone_tail.specs.declared.rule.YearlyRule.{YearlyRule}
+use Rattle.zone_tail.specs.{Candidates.{total_by, IsFixed}, Rules.{rule_total}, declared.candidate.Candidate.{Candidate}, declared.candidate.Candidate.TheVariants.{Fixed, Ruled}, declared.rule.YearlyRule.{YearlyRule}}
 
 pub fixed_at : (P : Type 0) (fixed total : ℤ) → P ↔ (fixed ≡ total) → (candidate : Candidate) → candidate ≡ Fixed fixed
     → P ↔ (IsFixed candidate × ((s : ℤ) → total_by candidate s ≡ total))

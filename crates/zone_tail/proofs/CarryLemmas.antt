@@ -1,34 +1,13 @@
 -- What a chosen candidate's text is read as, and that its zone gives the set's offset.
-use Rattle.std.proofs.Common.{◌≡◌, false, None, ℤ, pos, refl, arith, ℕ, zero, suc, true, cond, List, [], ◌∷◌, Option, Some, neg_ℤ, ◌<ℤ◌, sym, ◌∙◌, subst}
-use Rattle.std.specs.Ordering.{int_eq}
-use Rattle.std.proofs.lemmas.Int.{ints}
-use Rattle.tz_posix.specs.Days.{day_refusal}
-use Rattle.zone_tail.specs.Rules.{IsNearYear, date_of, IsReach, rule_total}
-use Rattle.zone_tail.specs.declared.rule.Change.{Change}
-use Rattle.std.proofs.lemmas.Bool.{and_from}
+use Rattle.std.{proofs.Common.{◌≡◌, false, None, ℤ, pos, refl, arith, ℕ, zero, suc, true, cond, List, [], ◌∷◌, Option, Some, neg_ℤ, ◌<ℤ◌, sym, ◌∙◌, subst}, specs.Ordering.{int_eq}, proofs.lemmas.Int.{ints}, proofs.lemmas.Bool.{and_from}}
+use Rattle.tz_posix.specs.{Days.{day_refusal}, InForce.{is_year, rule_refusal, year_at}, PosixZones.{Given, Gives, posix_refusal}, Ranges.{first_some}, Spells.{Spells}, declared.error.Error.TheVariants.{ComponentRange}}
+use Rattle.zone_tail.specs.{Rules.{IsNearYear, date_of, IsReach, rule_total}, declared.rule.Change.{Change}, Agreement.{Agrees}, Candidates.{candidate_total, IsAllowed, IsLast, IsSoundCandidate}, Carried.{CarriesOn, IsCovered, IsFrom}}
+use Rattle.zone_tail.specs.{Ready.{CanBeWritten, IsNamedBy}, Settled.{IsPastChanges, IsSettled, Settles}, Tails.{beginning, end_of_last_year, is_ending_early}, Texts.{text_of}, Totals.{HasBegun}, Values.{value_of, zone_of}}
+use Rattle.zone_tail.specs.declared.candidate.Candidate.{Candidate, TheVariants.{Fixed, Ruled}}
+use Rattle.zone_tail.proofs.{ReadLemmas.{text_spelled, value_in_range, value_stands}, YearLemmas.{year_near}}
 use Rattle.basics.specs.ComparisonLaws.{le_pass}
 use Rattle.civil_base.specs.Instants.{seconds_of}
-use Rattle.tz_zone.specs.Sets.{schedule_of, shifts_of}
-use Rattle.tz_zone.specs.Spans.{Shift}
-use Rattle.tz_zone.specs.declared.set.FixedTimespanSet.{FixedTimespanSet}
-use Rattle.tz_posix.specs.InForce.{is_year, rule_refusal, year_at}
-use Rattle.tz_posix.specs.PosixZones.{Given, Gives, posix_refusal}
-use Rattle.tz_posix.specs.Ranges.{first_some}
-use Rattle.tz_posix.specs.Spells.{Spells}
-use Rattle.tz_posix.specs.declared.error.Error.TheVariants.{ComponentRange}
-use Rattle.zone_tail.specs.Agreement.{Agrees}
-use Rattle.zone_tail.specs.Candidates.{candidate_total, IsAllowed, IsLast, IsSoundCandidate}
-use Rattle.zone_tail.specs.Carried.{CarriesOn, IsCovered, IsFrom}
-use Rattle.zone_tail.specs.Ready.{CanBeWritten, IsNamedBy}
-use Rattle.zone_tail.specs.Settled.{IsPastChanges, IsSettled, Settles}
-use Rattle.zone_tail.specs.Tails.{beginning, end_of_last_year, is_ending_early}
-use Rattle.zone_tail.specs.Texts.{text_of}
-use Rattle.zone_tail.specs.Totals.{HasBegun}
-use Rattle.zone_tail.specs.Values.{value_of, zone_of}
-use Rattle.zone_tail.specs.declared.candidate.Candidate.{Candidate}
-use Rattle.zone_tail.specs.declared.candidate.Candidate.TheVariants.{Fixed, Ruled}
-use Rattle.zone_tail.proofs.ReadLemmas.{text_spelled, value_in_range, value_stands}
-use Rattle.zone_tail.proofs.YearLemmas.{year_near}
+use Rattle.tz_zone.specs.{Sets.{schedule_of, shifts_of}, Spans.{Shift}, declared.set.FixedTimespanSet.{FixedTimespanSet}}
 
 not_last : (y : ℤ) → IsNearYear y → int_eq y (pos 9999) ≡ false
 not_last y near = grind (arith, ints, near.last)

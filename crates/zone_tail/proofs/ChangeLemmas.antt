@@ -1,27 +1,11 @@
 -- The changes that come at a local second of the last year come there.
 use Rattle.std.proofs.Common.{◌≡◌, ℕ, ◌+◌, ◌*◌, ◌/◌, ◌<◌, ◌≤◌, Bool, true, false, cond, ◌++◌, [], ◌∷◌, length, map, nat_eq, nat_le, nat_lt, All, ℤ, pos, ◌+ℤ◌, ◌-ℤ◌, ◌*ℤ◌, ◌≤ℤ◌, ◌<ℤ◌, unsigned_abs, inl, inr, refl, sym, ap, ◌∙◌, subst, arith}
+use Rattle.std.proofs.lemmas.{Bool.{cases_lt}, Bool.Decides.{nat_tests}, List.{length-map}, List.Elements.{All-append, All-cons, All-map, All-nil, All-weaker}}
 use Rattle.std.specs.Int.{int_div_euclid, int_rem_euclid}
-use Rattle.std.proofs.lemmas.Bool.{cases_lt}
-use Rattle.std.proofs.lemmas.Bool.Decides.{nat_tests}
-use Rattle.std.proofs.lemmas.List.{length-map}
-use Rattle.std.proofs.lemmas.List.Elements.{All-append, All-cons, All-map, All-nil, All-weaker}
-use Rattle.basics.specs.Dates.{last_with, year_of, month_of, day_of}
-use Rattle.basics.specs.DateLaws.{day_parts, year-between}
-use Rattle.basics.specs.Days.{day, days_in_month, is_leap, days_in_year, days_after_zero, year_start, days_through, days_into_year, IsCountedYear, IsDate}
-use Rattle.basics.specs.MonthLaws.{days_in_month-bounds}
-use Rattle.basics.specs.SignedLaws.{signed, floored}
-use Rattle.basics.specs.WeekdayLaws.{day-from_first, last_with_weekday, weekday_in_month, weekday_of-small}
-use Rattle.basics.specs.Weekdays.{weekday_of}
-use Rattle.tz_posix.specs.Days.{nth_weekday, rule_day}
-use Rattle.tz_posix.specs.InForce.{instant_in}
-use Rattle.tz_posix.specs.Ranges.{is_rule_date}
-use Rattle.tz_posix.specs.WeekdayLaws.{first_weekday-is}
-use Rattle.tz_posix.specs.declared.date.Date.TheVariants.{M}
-use Rattle.zone_tail.specs.Changes.{change_with, changes_at, weeks}
-use Rattle.zone_tail.specs.LastYear.{second_week, year_begin, year_end}
-use Rattle.zone_tail.specs.Rules.{IsChange, time_of}
-use Rattle.zone_tail.specs.declared.rule.Change.{Change}
-use Rattle.zone_tail.proofs.TotalLemmas.{day-2099}
+use Rattle.basics.specs.{Dates.{last_with, year_of, month_of, day_of}, DateLaws.{day_parts, year-between}, Days.{day, days_in_month, is_leap, days_in_year, days_after_zero, year_start, days_through, days_into_year, IsCountedYear, IsDate}}
+use Rattle.basics.specs.{MonthLaws.{days_in_month-bounds}, SignedLaws.{signed, floored}, WeekdayLaws.{day-from_first, last_with_weekday, weekday_in_month, weekday_of-small}, Weekdays.{weekday_of}}
+use Rattle.tz_posix.specs.{Days.{nth_weekday, rule_day}, InForce.{instant_in}, Ranges.{is_rule_date}, WeekdayLaws.{first_weekday-is}, declared.date.Date.TheVariants.{M}}
+use Rattle.zone_tail.{specs.Changes.{change_with, changes_at, weeks}, specs.LastYear.{second_week, year_begin, year_end}, specs.Rules.{IsChange, time_of}, specs.declared.rule.Change.{Change}, proofs.TotalLemmas.{day-2099}}
 
 -- a day is the last one with its weekday up to six days later
 last_like_it : (y : ℤ) (m l i : ℕ) → IsCountedYear y → 1 ≤ i → i ≤ l → l < i + 7

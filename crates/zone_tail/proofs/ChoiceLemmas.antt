@@ -1,13 +1,8 @@
 -- The best of several walks.
-use Rattle.std.proofs.Common.{◌≡◌, ℕ, ◌+◌, ◌<◌, ◌≤◌, List, length, ℤ, subst, ⊎_elim, arith}
-use Rattle.std.proofs.lemmas.Bool.{cases_lt}
+use Rattle.std.proofs.{Common.{◌≡◌, ℕ, ◌+◌, ◌<◌, ◌≤◌, List, length, ℤ, subst, ⊎_elim, arith}, lemmas.Bool.{cases_lt}}
 use Rattle.zone_spans.specs.Schedules.{Schedule}
 use Rattle.tz_zone.specs.Spans.{TimesDontFall}
-use Rattle.zone_tail.specs.Agreement.{Agrees, IsWalked}
-use Rattle.zone_tail.specs.Candidates.{IsAllowed}
-use Rattle.zone_tail.specs.Choices.{candidate_at, IsNoBetter, IsBest, IsChoice}
-use Rattle.zone_tail.specs.declared.candidate.Candidate.{Candidate}
-use Rattle.zone_tail.proofs.StepLemmas.{agrees_there, no_earlier, none_is}
+use Rattle.zone_tail.{specs.Agreement.{Agrees, IsWalked}, specs.Candidates.{IsAllowed}, specs.Choices.{candidate_at, IsNoBetter, IsBest, IsChoice}, specs.declared.candidate.Candidate.{Candidate}, proofs.StepLemmas.{agrees_there, no_earlier, none_is}}
 
 module _ (candidates : List Candidate) (zone : Schedule) (last : ℤ) where
   itself : (best from n : ℕ) → n ≡ best → IsWalked (candidate_at candidates best) zone last from → IsNoBetter candidates zone last best from n

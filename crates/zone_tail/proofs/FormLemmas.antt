@@ -1,18 +1,12 @@
 -- The form of the last year, by what is found of its entries.
-use Rattle.std.proofs.Common.{◌≡◌, ℕ, suc, ◌<◌, Bool, true, false, cond, List, [], ◌∷◌, ℤ, pos, ◌-ℤ◌, int_lt, inl, inr, refl, sym, ap, ◌∙◌, subst, arith}
-use Rattle.std.proofs.lemmas.Int.{ints}
+use Rattle.std.proofs.{Common.{◌≡◌, ℕ, suc, ◌<◌, Bool, true, false, cond, List, [], ◌∷◌, ℤ, pos, ◌-ℤ◌, int_lt, inl, inr, refl, sym, ap, ◌∙◌, subst, arith}, lemmas.Int.{ints}}
 use Rattle.basics.specs.ComparisonLaws.{lt_from_pass, lt_pass}
-use Rattle.zone_spans.specs.Entries.{Entry}
-use Rattle.zone_spans.specs.declared.span.FixedTimespan.{FixedTimespan}
-use Rattle.tz_zone.specs.Sets.{shifts_of, span_in}
-use Rattle.tz_zone.specs.Spans.{IsCut}
-use Rattle.tz_zone.specs.declared.set.FixedTimespanSet.{FixedTimespanSet}
-use Rattle.zone_tail.specs.LastYear.{Form, steady, yearly, other, are_start_and_end, entries_between, form, form_of, span_from, standard_of, year_begin, year_end}
-use Rattle.zone_tail.specs.Shapes.{entry_in, AreRising, IsForm, IsShape}
-use Rattle.zone_tail.specs.Totals.{IsCount}
-use Rattle.zone_tail.specs.declared.last_year.Form.TheVariants as code
+use Rattle.zone_spans.specs.{Entries.{Entry}, declared.span.FixedTimespan.{FixedTimespan}}
+use Rattle.tz_zone.specs.{Sets.{shifts_of, span_in}, Spans.{IsCut}, declared.set.FixedTimespanSet.{FixedTimespanSet}}
+use Rattle.zone_tail.specs.{LastYear.{Form, steady, yearly, other, are_start_and_end, entries_between, form, form_of, span_from, standard_of, year_begin, year_end}, Shapes.{entry_in, AreRising, IsForm, IsShape}, Totals.{IsCount}}
 use Rattle.zone_tail.specs.declared.last_year.Shape.TheVariants.{Steady, Pair, Other}
 use Rattle.zone_tail.proofs.ShapeLemmas.{span_from-count}
+use Rattle.zone_tail.specs.declared.last_year.Form.TheVariants as code
 
 module _ (set : FixedTimespanSet) where
   abbrev offset : ℤ

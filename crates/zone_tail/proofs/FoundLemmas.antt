@@ -1,27 +1,13 @@
 -- What is chosen is what is found by trying.
 use Rattle.std.proofs.Common.{◌≡◌, ℕ, zero, suc, ◌+◌, ◌<◌, ◌≤◌, Bool, true, false, cond, ◌&&◌, nat_lt, List, length, Option, ℤ, pos, ◌+ℤ◌, ◌-ℤ◌, ◌≤ℤ◌, ◌<ℤ◌, int_eq, int_lt, unsigned_abs, refl, sym, ap, ◌∙◌, ⊎_elim, arith}
+use Rattle.std.proofs.lemmas.{Bool.{and_from, and_parts, cases_lt, lt-ltb}, Bool.Decides.{nat_tests}, Int.{ints, by_lt_z}}
 use Rattle.std.specs.Int.{int_max}
-use Rattle.std.proofs.lemmas.Bool.{and_from, and_parts, cases_lt, lt-ltb}
-use Rattle.std.proofs.lemmas.Bool.Decides.{nat_tests}
-use Rattle.std.proofs.lemmas.Int.{ints, by_lt_z}
-use Rattle.basics.specs.ComparisonLaws.{le_from_pass, le_pass, lt_from_fail, lt_from_pass, eq_from_pass, eq_pass}
-use Rattle.basics.specs.SignedLaws.{natural, signed}
+use Rattle.basics.specs.{ComparisonLaws.{le_from_pass, le_pass, lt_from_fail, lt_from_pass, eq_from_pass, eq_pass}, SignedLaws.{natural, signed}}
 use Rattle.zone_spans.specs.Schedules.{Schedule}
-use Rattle.tz_zone.specs.Sets.{IsAccepted, schedule_of, shifts_of}
-use Rattle.tz_zone.specs.Spans.{TimesDontFall, shift_at, total_from}
-use Rattle.tz_zone.specs.declared.set.FixedTimespanSet.{FixedTimespanSet}
-use Rattle.zone_tail.specs.Agreement.{Agrees, AgreesFrom}
-use Rattle.zone_tail.specs.Candidates.{total_by, IsAllowed, ReachesTo}
-use Rattle.zone_tail.specs.Choices.{candidate_at, IsChoice}
-use Rattle.zone_tail.specs.Found.{agrees_from, each_second, first_with, found_from, found_span, found_text, gives_totals, index_from, reaches}
-use Rattle.zone_tail.specs.LastYear.{form}
-use Rattle.zone_tail.specs.Tails.{beginning, candidates, end_of_last_year, names_of, IsTail}
-use Rattle.zone_tail.specs.Texts.{text_of}
-use Rattle.zone_tail.specs.declared.candidate.Candidate.{Candidate}
-use Rattle.zone_tail.specs.declared.candidate.Candidate.TheVariants.{Fixed, Ruled}
-use Rattle.tz_zone.specs.SpanLaws.{total_from_cut}
-use Rattle.zone_tail.proofs.SecondLemmas.{before_both}
-use Rattle.zone_tail.proofs.StepLemmas.{by_instants, by_seconds}
+use Rattle.tz_zone.specs.{Sets.{IsAccepted, schedule_of, shifts_of}, Spans.{TimesDontFall, shift_at, total_from}, declared.set.FixedTimespanSet.{FixedTimespanSet}, SpanLaws.{total_from_cut}}
+use Rattle.zone_tail.specs.{Agreement.{Agrees, AgreesFrom}, Candidates.{total_by, IsAllowed, ReachesTo}, Choices.{candidate_at, IsChoice}, Found.{agrees_from, each_second, first_with, found_from, found_span, found_text, gives_totals, index_from, reaches}}
+use Rattle.zone_tail.specs.{LastYear.{form}, Tails.{beginning, candidates, end_of_last_year, names_of, IsTail}, Texts.{text_of}, declared.candidate.Candidate.{Candidate}, declared.candidate.Candidate.TheVariants.{Fixed, Ruled}}
+use Rattle.zone_tail.proofs.{SecondLemmas.{before_both}, StepLemmas.{by_instants, by_seconds}}
 
 -- ---- numbers and seconds
 

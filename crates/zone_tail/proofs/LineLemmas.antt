@@ -1,22 +1,12 @@
 -- A set's string has no line feed and no zero byte.
-use Rattle.std.proofs.Common.{◌≡◌, ℕ, Bool, true, false, not, cond, ◌&&◌, ◌==◌, List, [], ◌++◌, Some, None, refl, ℤ}
-use Rattle.std.proofs.lemmas.Bool.{and_parts}
-use Rattle.std.specs.List.{list_all}
-use Rattle.std.specs.Prelude.{codes}
+use Rattle.std.{proofs.Common.{◌≡◌, ℕ, Bool, true, false, not, cond, ◌&&◌, ◌==◌, List, [], ◌++◌, Some, None, refl, ℤ}, proofs.lemmas.Bool.{and_parts}, specs.List.{list_all}, specs.Prelude.{codes}}
 use Rattle.zone_spans.specs.Entries.{total}
 use Rattle.tz_zone.specs.declared.set.FixedTimespanSet.{FixedTimespanSet}
-use Rattle.zone_tail.specs.Choices.{candidate_at}
-use Rattle.zone_tail.specs.CleanLaws.{IsClean, both, either, number_clean, time_clean, offset_clean, saving_clean, name_clean, named_clean}
-use Rattle.zone_tail.specs.Found.{found_text, found_span, index_from}
-use Rattle.zone_tail.specs.LastYear.{Form, steady, yearly, other, form, standard_of}
-use Rattle.zone_tail.specs.Tails.{candidates, can_be_written, fault_of, is_name, named_or, names_of, tail_fault}
-use Rattle.zone_tail.specs.Texts.{change_text, clock_text, name_text, offset_text, rule_text, text_of, time_text}
-use Rattle.zone_tail.specs.declared.candidate.Candidate.{Candidate}
-use Rattle.zone_tail.specs.declared.candidate.Candidate.TheVariants.{Fixed, Ruled}
-use Rattle.zone_tail.specs.declared.outcome.TailFault.{TailFault}
+use Rattle.zone_tail.specs.{Choices.{candidate_at}, CleanLaws.{IsClean, both, either, number_clean, time_clean, offset_clean, saving_clean, name_clean, named_clean}, Found.{found_text, found_span, index_from}}
+use Rattle.zone_tail.specs.{LastYear.{Form, steady, yearly, other, form, standard_of}, Tails.{candidates, can_be_written, fault_of, is_name, named_or, names_of, tail_fault}}
+use Rattle.zone_tail.specs.{Texts.{change_text, clock_text, name_text, offset_text, rule_text, text_of, time_text}, declared.candidate.Candidate.{Candidate}, declared.candidate.Candidate.TheVariants.{Fixed, Ruled}, declared.outcome.TailFault.{TailFault}}
+use Rattle.zone_tail.specs.declared.rule.{Change.{Change}, YearlyRule.{YearlyRule}}
 use Rattle.zone_tail.specs.declared.outcome.TailFault.TheVariants as fault
-use Rattle.zone_tail.specs.declared.rule.Change.{Change}
-use Rattle.zone_tail.specs.declared.rule.YearlyRule.{YearlyRule}
 
 clock_clean : (s : ℕ) → IsClean (clock_text s)
 clock_clean s = either (s == 7200) [] (codes "/" ++ time_text s) refl (both (codes "/") (time_text s) refl (time_clean s))

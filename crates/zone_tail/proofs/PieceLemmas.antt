@@ -1,13 +1,9 @@
 -- The total of a rule is the same from a second up to the next moment or the next year.
-use Rattle.std.proofs.Common.{◌≡◌, ℤ, pos, cond, ◌+ℤ◌, ◌-ℤ◌, ◌*ℤ◌, ◌≤ℤ◌, ◌<ℤ◌, int_le, int_lt, refl, sym, ap, ◌∙◌, arith}
-use Rattle.std.specs.Prelude.{◌&&◌, ◌||◌}
-use Rattle.std.proofs.lemmas.Int.{ints}
+use Rattle.std.{proofs.Common.{◌≡◌, ℤ, pos, cond, ◌+ℤ◌, ◌-ℤ◌, ◌*ℤ◌, ◌≤ℤ◌, ◌<ℤ◌, int_le, int_lt, refl, sym, ap, ◌∙◌, arith}, specs.Prelude.{◌&&◌, ◌||◌}, proofs.lemmas.Int.{ints}}
 use Rattle.basics.specs.Days.{day}
 use Rattle.tz_posix.specs.InForce.{instant_in, is_saving, is_within, posix_total, year_at}
-use Rattle.zone_tail.specs.declared.rule.YearlyRule.{YearlyRule}
+use Rattle.zone_tail.{specs.declared.rule.YearlyRule.{YearlyRule}, specs.Rules.{IsReach, rule_total, time_of}, proofs.YearLemmas.{IsInYear, year_at-in, year_at-is, year_near}}
 use Rattle.civil_base.specs.Ranges.{IsOffset}
-use Rattle.zone_tail.specs.Rules.{IsReach, rule_total, time_of}
-use Rattle.zone_tail.proofs.YearLemmas.{IsInYear, year_at-in, year_at-is, year_near}
 
 same_le : (a s t n : ℤ) → s ≤ℤ t → t <ℤ n → (s <ℤ a → n ≤ℤ a) → int_le a t ≡ int_le a s
 same_le a s t n h k f = grind (arith, ints)

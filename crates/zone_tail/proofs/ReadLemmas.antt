@@ -1,39 +1,18 @@
 -- A candidate's text spells its value, whose parts are in their ranges, and which stands for its zone.
 use Rattle.std.proofs.Common.{◌≡◌, ℕ, ◌/◌, ◌%◌, ◌^◌, ◌<◌, ◌≤◌, Bool, true, false, not, cond, ◌&&◌, ◌==◌, List, [], ◌∷◌, ◌++◌, length, Some, None, option_and_then, Ok, nat_le, nat_lt, eqb-true, IsTrue, ℤ, pos, neg_ℤ, ◌+ℤ◌, int_lt, int_eq, unsigned_abs, refl, sym, ap, ◌∙◌, subst, arith}
-use Rattle.std.specs.Prelude.{codes}
-use Rattle.std.specs.Char.{is_ascii_alphabetic, is_ascii_digit}
-use Rattle.std.specs.Fmt.{decimal}
-use Rattle.std.specs.List.{list_all}
-use Rattle.std.specs.Option.{option_map_or}
-use Rattle.std.proofs.lemmas.Bool.{and_from, and_parts, leb-true}
-use Rattle.std.proofs.lemmas.Bool.Decides.{nat_tests}
-use Rattle.std.proofs.lemmas.Fmt.{decimal_is_IsNumeral, digits_decimal}
-use Rattle.std.proofs.lemmas.Int.{ints}
-use Rattle.std.proofs.lemmas.List.{append-nil, append_assoc}
-use Rattle.std.proofs.lemmas.List.Folds.{list_all-append}
-use Rattle.basics.specs.NumberLaws.{digits}
-use Rattle.basics.specs.ComparisonLaws.{lt_from_fail, lt_from_pass}
-use Rattle.basics.specs.SignedLaws.{signed, one_sided}
+use Rattle.std.proofs.lemmas.{Bool.{and_from, and_parts, leb-true}, Bool.Decides.{nat_tests}, Fmt.{decimal_is_IsNumeral, digits_decimal}, Int.{ints}, List.{append-nil, append_assoc}, List.Folds.{list_all-append}}
+use Rattle.std.specs.{Prelude.{codes}, Char.{is_ascii_alphabetic, is_ascii_digit}, Fmt.{decimal}, List.{list_all}, Option.{option_map_or}}
+use Rattle.basics.specs.{NumberLaws.{digits}, ComparisonLaws.{lt_from_fail, lt_from_pass}, SignedLaws.{signed, one_sided}}
 use Rattle.civil_base.specs.Offsets.{signed_by}
 use Rattle.tz_zone.specs.declared.set.FixedTimespanSet.{FixedTimespanSet}
-use Rattle.tz_posix.specs.InForce.{yearly_time}
-use Rattle.tz_posix.specs.Marks.{colon, comma, dot, greater, less, letter_M}
-use Rattle.tz_posix.specs.PosixZones.{fixed, ruled}
-use Rattle.tz_posix.specs.Ranges.{date_miss, first_miss, first_some, is_time, offset_miss, posix_range, rule_range, rule_time_miss}
-use Rattle.tz_posix.specs.Resolved.{resolved}
+use Rattle.tz_posix.specs.{InForce.{yearly_time}, Marks.{colon, comma, dot, greater, less, letter_M}, PosixZones.{fixed, ruled}, Ranges.{date_miss, first_miss, first_some, is_time, offset_miss, posix_range, rule_range, rule_time_miss}, Resolved.{resolved}}
 use Rattle.tz_posix.specs.Seconds.{east_of, offset_seconds, part, time_seconds}
 use Rattle.tz_posix.specs.Spells.{absent, date, day_times, dst, enclosed, full_form, hours, is_enclosed, letters, minus, minutes, bare, present, rule, seconds, timed, weekday, SpellsDate, SpellsMoment, SpellsName, SpellsNumber, SpellsOffset, SpellsRule, SpellsTime, Optional, Spells}
 use Rattle.tz_posix.specs.declared.error.RangeError.TheVariants as miss
-use Rattle.zone_tail.specs.Candidates.{IsSoundCandidate}
-use Rattle.zone_tail.specs.Ready.{CanBeWritten, IsNamedBy}
-use Rattle.zone_tail.specs.Rules.{IsChange, date_of, time_of}
-use Rattle.zone_tail.specs.Tails.{can_be_written, is_name, is_name_byte}
+use Rattle.zone_tail.specs.{Candidates.{IsSoundCandidate}, Ready.{CanBeWritten, IsNamedBy}, Rules.{IsChange, date_of, time_of}, Tails.{can_be_written, is_name, is_name_byte}}
 use Rattle.zone_tail.specs.Texts.{change_text, is_plain, name_text, offset_text, rule_text, saving_text, text_of, time_text, two_digits}
-use Rattle.zone_tail.specs.Values.{clock_value, minute_value, moment_value, named, offset_value, rule_value, saving_value, second_value, time_value, value_of, zone_of}
-use Rattle.zone_tail.specs.declared.candidate.Candidate.{Candidate}
-use Rattle.zone_tail.specs.declared.candidate.Candidate.TheVariants.{Fixed, Ruled}
-use Rattle.zone_tail.specs.declared.rule.Change.{Change}
-use Rattle.zone_tail.specs.declared.rule.YearlyRule.{YearlyRule}
+use Rattle.zone_tail.specs.{Values.{clock_value, minute_value, moment_value, named, offset_value, rule_value, saving_value, second_value, time_value, value_of, zone_of}, declared.candidate.Candidate.{Candidate}}
+use Rattle.zone_tail.specs.declared.{candidate.Candidate.TheVariants.{Fixed, Ruled}, rule.Change.{Change}, rule.YearlyRule.{YearlyRule}}
 
 -- ---- numbers
 

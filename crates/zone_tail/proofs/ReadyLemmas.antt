@@ -1,40 +1,19 @@
 -- The candidates of a set whose tail has no fault are ready to be chosen from.
 use Rattle.std.proofs.Common.{◌≡◌, ℕ, zero, suc, ◌<◌, ◌≤◌, Bool, true, false, cond, ◌&&◌, List, [], ◌∷◌, length, map, Some, None, All, ℤ, pos, neg_ℤ, ◌+ℤ◌, ◌-ℤ◌, ◌≤ℤ◌, ◌<ℤ◌, int_lt, int_eq, refl, sym, ap, ◌∙◌, subst, ⊎_elim, inl, inr, arith}
+use Rattle.std.proofs.lemmas.{Int.{ints}, Bool.{and_parts}, List.{length-append, length-map}, List.Elements.{All-append, All-cons, All-get_or, All-map, All-nil, All-tail, All-weaker}}
 use Rattle.std.specs.List.{list_all}
-use Rattle.std.proofs.lemmas.Int.{ints}
-use Rattle.std.proofs.lemmas.Bool.{and_parts}
-use Rattle.std.proofs.lemmas.List.{length-append, length-map}
-use Rattle.std.proofs.lemmas.List.Elements.{All-append, All-cons, All-get_or, All-map, All-nil, All-tail, All-weaker}
 use Rattle.basics.specs.ComparisonLaws.{eq_from_pass, le_le, le_same, lt_from_fail, lt_from_pass, lt_le}
-use Rattle.civil_base.specs.Ranges.{is_offset, IsOffset}
-use Rattle.civil_base.specs.RangeLaws.{offset_greatest, offset_least}
+use Rattle.civil_base.specs.{Ranges.{is_offset, IsOffset}, RangeLaws.{offset_greatest, offset_least}}
 use Rattle.zone_spans.specs.Entries.{Entry, total}
-use Rattle.tz_zone.specs.Sets.{IsAccepted, IsSpanTime, schedule_of, shift_of, shifts_of, span_in, total_of_span}
-use Rattle.tz_zone.specs.Spans.{Shift, shift_at}
-use Rattle.tz_zone.specs.declared.set.FixedTimespanSet.{FixedTimespanSet}
+use Rattle.tz_zone.specs.{Sets.{IsAccepted, IsSpanTime, schedule_of, shift_of, shifts_of, span_in, total_of_span}, Spans.{Shift, shift_at}, declared.set.FixedTimespanSet.{FixedTimespanSet}}
 use Rattle.tz_posix.specs.InForce.{instant_in}
-use Rattle.zone_tail.specs.Agreement.{Agrees}
-use Rattle.zone_tail.specs.Candidates.{IsAllowed, IsLast, IsSoundCandidate}
-use Rattle.zone_tail.specs.Changes.{changes_at}
-use Rattle.zone_tail.specs.Choices.{candidate_at, IsChoice}
-use Rattle.zone_tail.specs.LastYear.{Form, form, is_end, is_start, second_week, standard_of, year_begin, year_end}
-use Rattle.zone_tail.specs.Ready.{CanBeWritten, IsChosen, IsNamedBy, IsReady, IsReadyList}
-use Rattle.zone_tail.specs.Rules.{time_of}
-use Rattle.zone_tail.specs.Settled.{Settles}
-use Rattle.zone_tail.specs.Shapes.{entry_in, IsForm}
-use Rattle.zone_tail.specs.Tails.{can_be_written, candidates, candidates_of, end_of_last_year, ends_early, fault_of, is_ending_early, is_name, named_or, names_of, rule_with, rules_with, tail_fault}
-use Rattle.zone_tail.specs.Totals.{IsCount}
-use Rattle.zone_tail.specs.declared.candidate.Candidate.{Candidate}
-use Rattle.zone_tail.specs.declared.candidate.Candidate.TheVariants.{Fixed, Ruled}
+use Rattle.zone_tail.specs.{Agreement.{Agrees}, Candidates.{IsAllowed, IsLast, IsSoundCandidate}, Changes.{changes_at}, Choices.{candidate_at, IsChoice}, LastYear.{Form, form, is_end, is_start, second_week, standard_of, year_begin, year_end}}
+use Rattle.zone_tail.specs.{Ready.{CanBeWritten, IsChosen, IsNamedBy, IsReady, IsReadyList}, Rules.{time_of}, Settled.{Settles}, Shapes.{entry_in, IsForm}}
+use Rattle.zone_tail.specs.{Tails.{can_be_written, candidates, candidates_of, end_of_last_year, ends_early, fault_of, is_ending_early, is_name, named_or, names_of, rule_with, rules_with, tail_fault}, Totals.{IsCount}, declared.candidate.Candidate.{Candidate}}
+use Rattle.zone_tail.specs.declared.{candidate.Candidate.TheVariants.{Fixed, Ruled}, last_year.Form.TheVariants.{Steady, Yearly, Other}, rule.Change.{Change}}
+use Rattle.zone_tail.proofs.{ChangeLemmas.{Comes, all_come, changes_some}, SettledLemmas.{begun_entry, settled}, ShapeLemmas.{shift_is}, SpanLemmas.{length-shifts}, TotalLemmas.{Gives, IsCandidate, candidate_agrees, same_choice, steady_agrees}}
 use Rattle.zone_tail.specs.declared.last_year.Form as code
-use Rattle.zone_tail.specs.declared.last_year.Form.TheVariants.{Steady, Yearly, Other}
 use Rattle.zone_tail.specs.declared.outcome.TailFault.TheVariants as fault
-use Rattle.zone_tail.specs.declared.rule.Change.{Change}
-use Rattle.zone_tail.proofs.ChangeLemmas.{Comes, all_come, changes_some}
-use Rattle.zone_tail.proofs.SettledLemmas.{begun_entry, settled}
-use Rattle.zone_tail.proofs.ShapeLemmas.{shift_is}
-use Rattle.zone_tail.proofs.SpanLemmas.{length-shifts}
-use Rattle.zone_tail.proofs.TotalLemmas.{Gives, IsCandidate, candidate_agrees, same_choice, steady_agrees}
 
 shift_offset : (shifts : List Shift) (i : ℕ) → list_all (λ (s : Shift). is_offset s.1) shifts ≡ true → i < length shifts → is_offset (shift_at shifts i).1 ≡ true
 shift_offset [] i h l = absurd (omega arith)

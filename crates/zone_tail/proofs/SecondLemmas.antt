@@ -1,6 +1,5 @@
 -- Every second is that of an instant, and some second is before two others.
-use Rattle.std.proofs.Common.{◌≡◌, ℤ, pos, ◌-ℤ◌, ◌*ℤ◌, ◌<ℤ◌, arith}
-use Rattle.std.proofs.lemmas.Int.{ints, by_lt_z}
+use Rattle.std.proofs.{Common.{◌≡◌, ℤ, pos, ◌-ℤ◌, ◌*ℤ◌, ◌<ℤ◌, arith}, lemmas.Int.{ints, by_lt_z}}
 use Rattle.civil_base.specs.Instants.{seconds_of}
 use Rattle.tz_zone.specs.SecondLaws.{IsSecond, second_is, one_second}
 

@@ -1,26 +1,11 @@
 -- The rule of the last year decides by itself from the last entry on.
-use Rattle.std.proofs.Common.{◌≡◌, ℕ, zero, suc, ◌+◌, ◌-◌, ◌*◌, ◌<◌, ◌≤◌, Bool, true, false, ◌||◌, List, [], ◌∷◌, length, slice_index_or, ℤ, pos, ◌+ℤ◌, ◌-ℤ◌, ◌≤ℤ◌, ◌<ℤ◌, int_le, inl, inr, refl, ap, arith}
+use Rattle.std.proofs.{Common.{◌≡◌, ℕ, zero, suc, ◌+◌, ◌-◌, ◌*◌, ◌<◌, ◌≤◌, Bool, true, false, ◌||◌, List, [], ◌∷◌, length, slice_index_or, ℤ, pos, ◌+ℤ◌, ◌-ℤ◌, ◌≤ℤ◌, ◌<ℤ◌, int_le, inl, inr, refl, ap, arith}, lemmas.Bool.{and_parts, cases_lt}, lemmas.Int.{ints}}
 use Rattle.std.specs.List.{list_all}
-use Rattle.std.proofs.lemmas.Bool.{and_parts, cases_lt}
-use Rattle.std.proofs.lemmas.Int.{ints}
-use Rattle.basics.specs.ComparisonLaws.{le_fail, le_from_pass, le_pass}
-use Rattle.basics.specs.DateLaws.{day-into_year}
-use Rattle.basics.specs.Days.{day, days_in_month, IsCountedYear}
-use Rattle.basics.specs.MonthLaws.{days_through-rise, days_through-two}
-use Rattle.basics.specs.SignedLaws.{signed}
-use Rattle.basics.specs.WeekdayLaws.{day-from_first}
+use Rattle.basics.specs.{ComparisonLaws.{le_fail, le_from_pass, le_pass}, DateLaws.{day-into_year}, Days.{day, days_in_month, IsCountedYear}, MonthLaws.{days_through-rise, days_through-two}, SignedLaws.{signed}, WeekdayLaws.{day-from_first}}
 use Rattle.zone_spans.specs.Entries.{Entry}
-use Rattle.tz_posix.specs.DayLaws.{day-2100, days_into_year-is}
-use Rattle.tz_posix.specs.Days.{nth_weekday, rule_day}
-use Rattle.tz_posix.specs.InForce.{instant_in}
-use Rattle.tz_posix.specs.WeekdayLaws.{first_weekday-is, nth_weekday-is, weekday_parts}
-use Rattle.zone_tail.specs.LastYear.{year_begin, year_end}
-use Rattle.civil_base.specs.RangeLaws.{offset_greatest, offset_least}
-use Rattle.civil_base.specs.Ranges.{IsOffset}
-use Rattle.zone_tail.specs.Rules.{date_of, IsChange, time_of}
-use Rattle.zone_tail.specs.Settled.{IsOfLastYear}
-use Rattle.zone_tail.specs.declared.rule.Change.{Change}
-use Rattle.zone_tail.proofs.TotalLemmas.{in_last_year}
+use Rattle.tz_posix.specs.{DayLaws.{day-2100, days_into_year-is}, Days.{nth_weekday, rule_day}, InForce.{instant_in}, WeekdayLaws.{first_weekday-is, nth_weekday-is, weekday_parts}}
+use Rattle.zone_tail.{specs.LastYear.{year_begin, year_end}, specs.Rules.{date_of, IsChange, time_of}, specs.Settled.{IsOfLastYear}, specs.declared.rule.Change.{Change}, proofs.TotalLemmas.{in_last_year}}
+use Rattle.civil_base.specs.{RangeLaws.{offset_greatest, offset_least}, Ranges.{IsOffset}}
 
 -- where the nth day with a weekday lies at least
 record IsLeast (n i : ℕ) : Type 0 where

@@ -1,23 +1,11 @@
 -- Entries between two seconds, by how many lie before each.
 use Rattle.std.proofs.Common.{◌≡◌, ℕ, zero, suc, ◌+◌, ◌-◌, ◌<◌, ◌≤◌, Bool, true, false, cond, List, [], ◌∷◌, length, length-take-le, map, take, drop, slice_index_or, ℤ, pos, ◌≤ℤ◌, ◌<ℤ◌, int_le, int_lt, refl, sym, ap, ◌∙◌, subst, ⊎_elim, arith}
-use Rattle.std.specs.Prelude.{◌&&◌, ◌||◌, filter, nat_lt}
-use Rattle.std.specs.Cmp.{both_ways}
-use Rattle.std.specs.List.{list_any}
-use Rattle.std.proofs.lemmas.Int.{ints}
-use Rattle.std.proofs.lemmas.Bool.{cases_lt}
-use Rattle.std.proofs.lemmas.Bool.Decides.{nat_tests}
-use Rattle.std.proofs.lemmas.List.{length-drop}
+use Rattle.std.proofs.lemmas.{Int.{ints}, Bool.{cases_lt}, Bool.Decides.{nat_tests}, List.{length-drop}}
+use Rattle.std.specs.{Prelude.{◌&&◌, ◌||◌, filter, nat_lt}, Cmp.{both_ways}, List.{list_any}}
 use Rattle.basics.specs.ComparisonLaws.{le_fail, le_pass}
-use Rattle.zone_spans.specs.Entries.{Entry}
-use Rattle.zone_spans.specs.declared.span.FixedTimespan.{FixedTimespan}
-use Rattle.tz_zone.specs.Sets.{shift_of, shifts_of, span_in}
-use Rattle.tz_zone.specs.Spans.{IsCut, shift_at}
-use Rattle.tz_zone.specs.declared.set.FixedTimespanSet.{FixedTimespanSet}
-use Rattle.zone_tail.specs.LastYear.{entries_between, last_span, span_from}
-use Rattle.zone_tail.specs.Shapes.{entry_in, IsShape}
-use Rattle.zone_tail.specs.Totals.{IsCount}
-use Rattle.zone_tail.specs.declared.last_year.Shape.TheVariants.{Steady, Pair, Other}
-use Rattle.zone_tail.proofs.SpanLemmas.{length-shifts}
+use Rattle.zone_spans.specs.{Entries.{Entry}, declared.span.FixedTimespan.{FixedTimespan}}
+use Rattle.tz_zone.specs.{Sets.{shift_of, shifts_of, span_in}, Spans.{IsCut, shift_at}, declared.set.FixedTimespanSet.{FixedTimespanSet}}
+use Rattle.zone_tail.{specs.LastYear.{entries_between, last_span, span_from}, specs.Shapes.{entry_in, IsShape}, specs.Totals.{IsCount}, specs.declared.last_year.Shape.TheVariants.{Steady, Pair, Other}, proofs.SpanLemmas.{length-shifts}}
 
 inside : (l h t : ℤ) → l ≤ℤ t → t <ℤ h → int_le l t && int_lt t h ≡ true
 inside l h t k m = grind (arith, ints)

@@ -1,19 +1,12 @@
 -- Agreement from a span on, by the spans: each step of the walk.
-use Rattle.std.proofs.Common.{◌≡◌, ◌↔◌, ℕ, zero, suc, ◌+◌, ◌-◌, ◌<◌, ◌≤◌, length, ℤ, pos, ◌*ℤ◌, ◌≤ℤ◌, ◌<ℤ◌, refl, sym, ap, ◌∙◌, subst, ⊎_elim, arith}
-use Rattle.std.proofs.lemmas.Int.{ints, by_lt_z}
-use Rattle.std.proofs.lemmas.Bool.{cases_lt}
+use Rattle.std.proofs.{Common.{◌≡◌, ◌↔◌, ℕ, zero, suc, ◌+◌, ◌-◌, ◌<◌, ◌≤◌, length, ℤ, pos, ◌*ℤ◌, ◌≤ℤ◌, ◌<ℤ◌, refl, sym, ap, ◌∙◌, subst, ⊎_elim, arith}, lemmas.Int.{ints, by_lt_z}, lemmas.Bool.{cases_lt}}
 use Rattle.basics.specs.ComparisonLaws.{le_le}
 use Rattle.civil_base.specs.Instants.{seconds_of}
 use Rattle.zone_spans.specs.Schedules.{Schedule}
-use Rattle.tz_zone.specs.SecondLaws.{total_is}
-use Rattle.tz_zone.specs.Spans.{TimesDontFall, shift_at, total_of, total_from}
-use Rattle.zone_tail.specs.Agreement.{Agrees, AgreesIn, AgreesFrom, IsWalked}
-use Rattle.zone_tail.specs.Candidates.{candidate_total, total_by, IsAllowed, ReachesTo, IsFixed}
-use Rattle.zone_tail.specs.Totals.{HasBegun, Lasts}
-use Rattle.zone_tail.specs.declared.candidate.Candidate.{Candidate}
+use Rattle.tz_zone.specs.{SecondLaws.{total_is}, Spans.{TimesDontFall, shift_at, total_of, total_from}}
+use Rattle.zone_tail.specs.{Agreement.{Agrees, AgreesIn, AgreesFrom, IsWalked}, Candidates.{candidate_total, total_by, IsAllowed, ReachesTo, IsFixed}, Totals.{HasBegun, Lasts}, declared.candidate.Candidate.{Candidate}}
 use Rattle.zone_tail.specs.declared.candidate.Candidate.TheVariants.{Fixed, Ruled}
-use Rattle.zone_tail.proofs.SecondLemmas.{before_both, seconds_of-whole}
-use Rattle.zone_tail.proofs.SpanLemmas.{total_in_span, begun_down}
+use Rattle.zone_tail.proofs.{SecondLemmas.{before_both, seconds_of-whole}, SpanLemmas.{total_in_span, begun_down}}
 
 module _ (candidate : Candidate) (zone : Schedule) (last : ℤ) (times : TimesDontFall zone.shifts) where
   -- one more span in front

@@ -1,28 +1,12 @@
 -- Each candidate agrees from the last entry before the last year, or from the first in it, up to its end.
-use Rattle.std.proofs.Common.{◌≡◌, ℕ, zero, suc, ◌<◌, ◌≤◌, ◌⊎◌, Bool, true, false, cond, List, [], ◌∷◌, length, ℤ, pos, ◌-ℤ◌, ◌≤ℤ◌, ◌<ℤ◌, refl, sym, ap, ◌∙◌, subst, ⊎_elim, arith}
-use Rattle.std.proofs.lemmas.Int.{ints, by_lt_z}
-use Rattle.std.proofs.lemmas.Bool.{cases_lt}
-use Rattle.basics.specs.Days.{day, is_leap, days_in_year, days_in_month, days_after_zero, year_start, days_through, days_into_year}
-use Rattle.basics.specs.ComparisonLaws.{le_le, lt_le}
-use Rattle.basics.specs.SignedLaws.{signed}
+use Rattle.std.proofs.{Common.{◌≡◌, ℕ, zero, suc, ◌<◌, ◌≤◌, ◌⊎◌, Bool, true, false, cond, List, [], ◌∷◌, length, ℤ, pos, ◌-ℤ◌, ◌≤ℤ◌, ◌<ℤ◌, refl, sym, ap, ◌∙◌, subst, ⊎_elim, arith}, lemmas.Int.{ints, by_lt_z}, lemmas.Bool.{cases_lt}}
+use Rattle.basics.specs.{Days.{day, is_leap, days_in_year, days_in_month, days_after_zero, year_start, days_through, days_into_year}, ComparisonLaws.{le_le, lt_le}, SignedLaws.{signed}}
 use Rattle.zone_spans.specs.Schedules.{Schedule}
-use Rattle.tz_zone.specs.Spans.{IsCut, Shift, TimesDontFall, shift_at, total_of, total_from}
-use Rattle.tz_posix.specs.DayLaws.{day-2100}
-use Rattle.tz_posix.specs.InForce.{instant_in, is_within, year_at}
-use Rattle.zone_tail.specs.Agreement.{Agrees, AgreesFrom}
-use Rattle.zone_tail.specs.Candidates.{IsAllowed}
-use Rattle.zone_tail.specs.Choices.{candidate_at, IsChoice}
-use Rattle.zone_tail.specs.LastYear.{year_begin, year_end}
-use Rattle.zone_tail.specs.Rules.{IsNearYear, rule_total, time_of}
-use Rattle.zone_tail.specs.Totals.{HasBegun, IsCount}
-use Rattle.zone_tail.specs.declared.candidate.Candidate.{Candidate}
-use Rattle.zone_tail.specs.declared.candidate.Candidate.TheVariants.{Fixed, Ruled}
-use Rattle.zone_tail.specs.declared.rule.YearlyRule.{YearlyRule}
-use Rattle.zone_tail.proofs.PieceLemmas.{of_year}
-use Rattle.tz_zone.specs.SpanLaws.{total_from_cut}
-use Rattle.zone_tail.proofs.SpanLemmas.{total_in_span}
-use Rattle.zone_tail.proofs.StepLemmas.{by_instants, by_seconds}
-use Rattle.zone_tail.proofs.YearLemmas.{IsInYear, year_at-is}
+use Rattle.tz_zone.specs.{Spans.{IsCut, Shift, TimesDontFall, shift_at, total_of, total_from}, SpanLaws.{total_from_cut}}
+use Rattle.tz_posix.specs.{DayLaws.{day-2100}, InForce.{instant_in, is_within, year_at}}
+use Rattle.zone_tail.specs.{Agreement.{Agrees, AgreesFrom}, Candidates.{IsAllowed}, Choices.{candidate_at, IsChoice}, LastYear.{year_begin, year_end}, Rules.{IsNearYear, rule_total, time_of}, Totals.{HasBegun, IsCount}}
+use Rattle.zone_tail.specs.declared.{candidate.Candidate.{Candidate}, candidate.Candidate.TheVariants.{Fixed, Ruled}, rule.YearlyRule.{YearlyRule}}
+use Rattle.zone_tail.proofs.{PieceLemmas.{of_year}, SpanLemmas.{total_in_span}, StepLemmas.{by_instants, by_seconds}, YearLemmas.{IsInYear, year_at-is}}
 
 start_before : (a b s : ℤ) → a ≤ℤ s → s <ℤ b → is_within a b s ≡ true
 start_before a b s h k = grind (arith, ints)

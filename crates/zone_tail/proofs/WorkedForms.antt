@@ -1,23 +1,11 @@
 -- Worked rows: the forms of last years, and the first cause.
-use Rattle.std.proofs.Common.{◌≡◌, ℕ, List, [], ◌∷◌, ◌++◌, map, true, false, Some, None, refl, ℤ, pos, neg_ℤ, ◌*ℤ◌}
-use Rattle.std.specs.Prelude.{codes}
-use Rattle.basics.specs.Dates.{last_with}
-use Rattle.basics.specs.Days.{day, days_after_zero, days_before_zero, days_in_month, days_in_year, days_into_year, days_through, is_leap, year_start}
-use Rattle.basics.specs.Weekdays.{weekday_of}
-use Rattle.tz_posix.specs.Days.{nth_weekday, rule_day}
-use Rattle.tz_posix.specs.InForce.{instant_in}
-use Rattle.tz_posix.specs.declared.date.Date.TheVariants.{M}
-use Rattle.zone_spans.specs.Entries.{Entry}
-use Rattle.zone_spans.specs.declared.span.FixedTimespan.{FixedTimespan}
+use Rattle.std.{proofs.Common.{◌≡◌, ℕ, List, [], ◌∷◌, ◌++◌, map, true, false, Some, None, refl, ℤ, pos, neg_ℤ, ◌*ℤ◌}, specs.Prelude.{codes}}
+use Rattle.basics.specs.{Dates.{last_with}, Days.{day, days_after_zero, days_before_zero, days_in_month, days_in_year, days_into_year, days_through, is_leap, year_start}, Weekdays.{weekday_of}}
+use Rattle.tz_posix.specs.{Days.{nth_weekday, rule_day}, InForce.{instant_in}, declared.date.Date.TheVariants.{M}}
+use Rattle.zone_spans.specs.{Entries.{Entry}, declared.span.FixedTimespan.{FixedTimespan}}
 use Rattle.tz_zone.specs.declared.set.FixedTimespanSet.{FixedTimespanSet}
-use Rattle.zone_tail.specs.Candidates.{year_1800}
-use Rattle.zone_tail.specs.Found.{reaches}
-use Rattle.zone_tail.specs.LastYear.{steady, yearly, other, form, standard_of, year_begin, year_end}
-use Rattle.zone_tail.specs.Settled.{has_begun_in}
-use Rattle.zone_tail.specs.Tails.{end_of_last_year, is_ending_early, is_outlasting, tail_fault}
-use Rattle.zone_tail.specs.declared.candidate.Candidate.TheVariants.{Fixed, Ruled}
-use Rattle.zone_tail.specs.declared.outcome.TailFault.TheVariants.{Shape, OffsetRange, Name}
-use Rattle.zone_tail.specs.declared.rule.YearlyRule.{YearlyRule}
+use Rattle.zone_tail.specs.{Candidates.{year_1800}, Found.{reaches}, LastYear.{steady, yearly, other, form, standard_of, year_begin, year_end}, Settled.{has_begun_in}, Tails.{end_of_last_year, is_ending_early, is_outlasting, tail_fault}}
+use Rattle.zone_tail.specs.declared.{candidate.Candidate.TheVariants.{Fixed, Ruled}, outcome.TailFault.TheVariants.{Shape, OffsetRange, Name}, rule.YearlyRule.{YearlyRule}}
 
 abbrev span : ℤ → ℤ → List ℕ → FixedTimespan
 span offset saving name = record { utc_offset = offset; dst_offset = saving; name = name }

@@ -1,17 +1,8 @@
 -- Worked rows: the weeks that name a day, what may be written, and the texts of candidates.
-use Rattle.std.proofs.Common.{◌≡◌, ℕ, List, [], ◌∷◌, map, true, false, Some, None, refl, arith, ℤ, pos, neg_ℤ}
-use Rattle.std.proofs.lemmas.Int.{ints}
-use Rattle.std.specs.Prelude.{codes}
-use Rattle.std.specs.Fmt.{digits}
+use Rattle.std.{proofs.Common.{◌≡◌, ℕ, List, [], ◌∷◌, map, true, false, Some, None, refl, arith, ℤ, pos, neg_ℤ}, proofs.lemmas.Int.{ints}, specs.Prelude.{codes}, specs.Fmt.{digits}}
 use Rattle.zone_spans.specs.declared.span.FixedTimespan.{FixedTimespan}
-use Rattle.zone_tail.specs.Carried.{IsFrom}
-use Rattle.zone_tail.specs.Changes.{weeks}
-use Rattle.zone_tail.specs.LastYear.{steady, yearly, other}
-use Rattle.zone_tail.specs.Tails.{beginning, can_be_written, is_name, names_of, rules_with}
-use Rattle.zone_tail.specs.Texts.{change_text, name_text, offset_text, rule_text, saving_text, text_of, time_text}
-use Rattle.zone_tail.specs.declared.candidate.Candidate.TheVariants.{Fixed, Ruled}
-use Rattle.zone_tail.specs.declared.rule.Change.{Change}
-use Rattle.zone_tail.specs.declared.rule.YearlyRule.{YearlyRule}
+use Rattle.zone_tail.specs.{Carried.{IsFrom}, Changes.{weeks}, LastYear.{steady, yearly, other}, Tails.{beginning, can_be_written, is_name, names_of, rules_with}, Texts.{change_text, name_text, offset_text, rule_text, saving_text, text_of, time_text}}
+use Rattle.zone_tail.specs.declared.{candidate.Candidate.TheVariants.{Fixed, Ruled}, rule.Change.{Change}, rule.YearlyRule.{YearlyRule}}
 
 -- of months of 31 and 28 days: a day with no such weekday after it is the fifth, and the fourth too up to the 28th
 weeks_of_days : map (weeks 31) (1 ∷ 7 ∷ 8 ∷ 21 ∷ 22 ∷ 24 ∷ 25 ∷ 28 ∷ 29 ∷ 31 ∷ [])

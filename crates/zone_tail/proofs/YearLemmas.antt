@@ -1,16 +1,9 @@
 -- The years of seconds, by clocks of standard time.
-use Rattle.std.proofs.Common.{◌≡◌, ℤ, pos, neg_ℤ, ◌+ℤ◌, ◌*ℤ◌, ◌≤ℤ◌, ◌<ℤ◌, refl, arith, unsigned_abs}
-use Rattle.std.specs.Int.{int_div_euclid}
-use Rattle.std.proofs.lemmas.Int.{by_lt_z}
-use Rattle.basics.specs.Dates.{year_of}
-use Rattle.basics.specs.DateLaws.{IsYearOf, day-range, place_of, year_of-is}
-use Rattle.basics.specs.Days.{day, is_leap, days_in_year, days_in_month, days_after_zero, year_start, days_through, days_into_year, IsCountedYear}
-use Rattle.basics.specs.MonthLaws.{days_through-two}
-use Rattle.basics.specs.SignedLaws.{signed, natural}
-use Rattle.basics.specs.YearLaws.{cycle_days-rise, day-cycle}
+use Rattle.std.{proofs.Common.{◌≡◌, ℤ, pos, neg_ℤ, ◌+ℤ◌, ◌*ℤ◌, ◌≤ℤ◌, ◌<ℤ◌, refl, arith, unsigned_abs}, specs.Int.{int_div_euclid}, proofs.lemmas.Int.{by_lt_z}}
+use Rattle.basics.specs.{Dates.{year_of}, DateLaws.{IsYearOf, day-range, place_of, year_of-is}, Days.{day, is_leap, days_in_year, days_in_month, days_after_zero, year_start, days_through, days_into_year, IsCountedYear}, MonthLaws.{days_through-two}}
+use Rattle.basics.specs.{SignedLaws.{signed, natural}, YearLaws.{cycle_days-rise, day-cycle}}
 use Rattle.tz_posix.specs.InForce.{year_at}
-use Rattle.civil_base.specs.RangeLaws.{offset_greatest, offset_least}
-use Rattle.civil_base.specs.Ranges.{IsOffset}
+use Rattle.civil_base.specs.{RangeLaws.{offset_greatest, offset_least}, Ranges.{IsOffset}}
 use Rattle.zone_tail.specs.Rules.{IsNearYear, IsReach}
 
 -- a second of a year

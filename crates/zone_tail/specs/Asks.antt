@@ -1,11 +1,7 @@
 -- What the program asks of a zone.
 use Rattle.std.specs.Prelude.{ℕ, List, [], ◌∷◌, Option, Some, None, option_map, codes}
 use Rattle.zone_run.specs.Asked.{Asked}
-use Rattle.zone_tail.specs.Lines.{tail_line}
-use Rattle.zone_tail.specs.Found.{found_from, found_text}
-use Rattle.zone_tail.specs.Tails.{tail_fault}
-use Rattle.zone_tail.specs.declared.outcome.TailFault.{TailFault}
-use Rattle.zone_tail.specs.declared.outcome.TailFault.TheVariants.{Shape, OffsetRange, Name, NoMemory}
+use Rattle.zone_tail.specs.{Lines.{tail_line}, Found.{found_from, found_text}, Tails.{tail_fault}, declared.outcome.TailFault.{TailFault}, declared.outcome.TailFault.TheVariants.{Shape, OffsetRange, Name, NoMemory}}
 
 -- what stands after `tail: `; want of memory has no line
 abbrev pub fault_word : TailFault → List ℕ

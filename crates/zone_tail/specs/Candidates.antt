@@ -4,9 +4,7 @@ use Rattle.civil_base.specs.Instants.{seconds_of}
 use Rattle.zone_spans.specs.Schedules.{Schedule}
 use Rattle.tz_zone.specs.Spans.{shift_at}
 use Rattle.tz_lookup.specs.YearSeconds.{rules_begin}
-use Rattle.zone_tail.specs.Rules.{IsSound, rule_total}
-use Rattle.zone_tail.specs.declared.candidate.Candidate.{Candidate}
-use Rattle.zone_tail.specs.declared.candidate.Candidate.TheVariants.{Fixed, Ruled}
+use Rattle.zone_tail.specs.{Rules.{IsSound, rule_total}, declared.candidate.Candidate.{Candidate}, declared.candidate.Candidate.TheVariants.{Fixed, Ruled}}
 
 -- the seconds east of UTC at a second
 abbrev pub total_by : Candidate → ℤ → ℤ

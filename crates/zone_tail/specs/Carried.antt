@@ -2,15 +2,9 @@
 use Rattle.std.specs.Prelude.{◌≡◌, ℕ, false, List, Option, Some, None, Ok, ℤ, ◌≤ℤ◌, ◌<ℤ◌}
 use Rattle.civil_base.specs.Instants.{seconds_of}
 use Rattle.zone_spans.specs.Schedules.{total_at}
-use Rattle.tz_zone.specs.Sets.{schedule_of}
-use Rattle.tz_zone.specs.declared.set.FixedTimespanSet.{FixedTimespanSet}
-use Rattle.tz_posix.specs.PosixZones.{Given, Gives, PosixZone, posix_refusal}
-use Rattle.tz_posix.specs.Ranges.{posix_range}
-use Rattle.tz_posix.specs.Resolved.{resolved}
-use Rattle.tz_posix.specs.Spells.{Spells}
-use Rattle.tz_posix.specs.Values.{TzValue}
-use Rattle.zone_tail.specs.Settled.{IsPastChanges, IsSettled}
-use Rattle.zone_tail.specs.Tails.{end_of_last_year, is_ending_early}
+use Rattle.tz_zone.specs.{Sets.{schedule_of}, declared.set.FixedTimespanSet.{FixedTimespanSet}}
+use Rattle.tz_posix.specs.{PosixZones.{Given, Gives, PosixZone, posix_refusal}, Ranges.{posix_range}, Resolved.{resolved}, Spells.{Spells}, Values.{TzValue}}
+use Rattle.zone_tail.specs.{Settled.{IsPastChanges, IsSettled}, Tails.{end_of_last_year, is_ending_early}}
 
 -- at or after the second from which on a string says the same; none stands for the beginning of time
 abbrev pub IsFrom : Option ℤ → ℤ → Type 0

@@ -1,11 +1,7 @@
 -- The changes of each year that come at a local second of one year.
-use Rattle.std.specs.Prelude.{ℕ, ◌+◌, ◌/◌, List, [], ◌∷◌, ◌++◌, map, nat_le, nat_lt, Option, Some, None, if◌then◌else◌, ℤ, pos, unsigned_abs}
-use Rattle.std.specs.Int.{int_div_euclid, int_rem_euclid}
-use Rattle.basics.specs.Dates.{day_of, month_of, year_of}
-use Rattle.basics.specs.Days.{days_in_month}
-use Rattle.basics.specs.Weekdays.{weekday_of}
-use Rattle.zone_tail.specs.declared.changes.Changes.{Changes}
-use Rattle.zone_tail.specs.declared.rule.Change.{Change}
+use Rattle.std.specs.{Prelude.{ℕ, ◌+◌, ◌/◌, List, [], ◌∷◌, ◌++◌, map, nat_le, nat_lt, Option, Some, None, if◌then◌else◌, ℤ, pos, unsigned_abs}, Int.{int_div_euclid, int_rem_euclid}}
+use Rattle.basics.specs.{Dates.{day_of, month_of, year_of}, Days.{days_in_month}, Weekdays.{weekday_of}}
+use Rattle.zone_tail.specs.declared.{changes.Changes.{Changes}, rule.Change.{Change}}
 
 -- The weeks n by which a rule may name a day, with its weekday, in a month of so many days. The fifth is the last, so it may be 5
 -- where the day a week later is past the month's end; else it is counted.

@@ -1,10 +1,7 @@
 -- The candidate that is chosen.
 use Rattle.std.specs.Prelude.{ℕ, ◌<◌, ◌≤◌, List, length, slice_index_or, ℤ, pos}
 use Rattle.zone_spans.specs.Schedules.{Schedule}
-use Rattle.zone_tail.specs.Agreement.{Agrees, IsWalked}
-use Rattle.zone_tail.specs.Candidates.{IsAllowed}
-use Rattle.zone_tail.specs.declared.candidate.Candidate.{Candidate}
-use Rattle.zone_tail.specs.declared.candidate.Candidate.TheVariants.{Fixed}
+use Rattle.zone_tail.specs.{Agreement.{Agrees, IsWalked}, Candidates.{IsAllowed}, declared.candidate.Candidate.{Candidate}, declared.candidate.Candidate.TheVariants.{Fixed}}
 
 abbrev pub candidate_at : List Candidate → ℕ → Candidate
 candidate_at candidates i = slice_index_or candidates i (Fixed (pos 0))

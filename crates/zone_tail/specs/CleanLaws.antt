@@ -1,13 +1,8 @@
 -- Texts of which strings and footers are made have no line feed and no zero byte.
-use Rattle.std.proofs.Common.{◌≡◌, ℕ, zero, suc, ◌+◌, ◌/◌, ◌%◌, Bool, true, false, not, cond, ◌&&◌, ◌==◌, List, [], ◌∷◌, ◌++◌, nat_lt, refl, ◌∙◌, arith, ℤ, pos, int_lt, int_eq, ◌+ℤ◌, unsigned_abs}
-use Rattle.std.proofs.lemmas.Bool.{and_from, and_parts}
-use Rattle.std.proofs.lemmas.Bool.Decides.{nat_tests}
-use Rattle.std.proofs.lemmas.List.Folds.{list_all-append}
-use Rattle.std.specs.Fmt.{decimal, digits, digits_onto, digit_glyph}
-use Rattle.std.specs.List.{list_all}
-use Rattle.std.specs.Prelude.{codes}
-use Rattle.zone_tail.specs.Tails.{is_name, is_name_byte}
-use Rattle.zone_tail.specs.Texts.{is_plain, minute_text, name_text, offset_text, saving_text, second_text, time_text, two_digits}
+use Rattle.std.proofs.{Common.{◌≡◌, ℕ, zero, suc, ◌+◌, ◌/◌, ◌%◌, Bool, true, false, not, cond, ◌&&◌, ◌==◌, List, [], ◌∷◌, ◌++◌, nat_lt, refl, ◌∙◌, arith, ℤ, pos, int_lt, int_eq, ◌+ℤ◌, unsigned_abs}, lemmas.Bool.{and_from, and_parts}}
+use Rattle.std.proofs.lemmas.{Bool.Decides.{nat_tests}, List.Folds.{list_all-append}}
+use Rattle.std.specs.{Fmt.{decimal, digits, digits_onto, digit_glyph}, List.{list_all}, Prelude.{codes}}
+use Rattle.zone_tail.specs.{Tails.{is_name, is_name_byte}, Texts.{is_plain, minute_text, name_text, offset_text, saving_text, second_text, time_text, two_digits}}
 
 abbrev pub IsClean : List ℕ → Type 0
 IsClean text = list_all (λ c. not (c == 10) && not (c == 0)) text ≡ true

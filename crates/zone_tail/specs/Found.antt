@@ -1,18 +1,9 @@
 -- The one string of a set, by trying each candidate from each span on, at every second. This says what is found as a function of the
 -- set; it is computed nowhere.
-use Rattle.std.specs.Prelude.{ℕ, zero, suc, ◌+◌, Bool, true, false, ◌&&◌, nat_lt, List, length, Option, if◌then◌else◌, ℤ, pos, ◌+ℤ◌, ◌-ℤ◌, int_le, unsigned_abs}
-use Rattle.std.specs.Int.{int_max}
-use Rattle.std.specs.Ordering.{int_eq}
+use Rattle.std.specs.{Prelude.{ℕ, zero, suc, ◌+◌, Bool, true, false, ◌&&◌, nat_lt, List, length, Option, if◌then◌else◌, ℤ, pos, ◌+ℤ◌, ◌-ℤ◌, int_le, unsigned_abs}, Int.{int_max}, Ordering.{int_eq}}
 use Rattle.zone_spans.specs.Schedules.{Schedule}
-use Rattle.tz_zone.specs.Sets.{schedule_of, shifts_of}
-use Rattle.tz_zone.specs.Spans.{shift_at, total_from}
-use Rattle.tz_zone.specs.declared.set.FixedTimespanSet.{FixedTimespanSet}
-use Rattle.zone_tail.specs.Candidates.{total_by, year_1800}
-use Rattle.zone_tail.specs.Choices.{candidate_at}
-use Rattle.zone_tail.specs.LastYear.{form}
-use Rattle.zone_tail.specs.Tails.{beginning, candidates, end_of_last_year, names_of}
-use Rattle.zone_tail.specs.Texts.{text_of}
-use Rattle.zone_tail.specs.declared.candidate.Candidate.{Candidate}
+use Rattle.tz_zone.specs.{Sets.{schedule_of, shifts_of}, Spans.{shift_at, total_from}, declared.set.FixedTimespanSet.{FixedTimespanSet}}
+use Rattle.zone_tail.specs.{Candidates.{total_by, year_1800}, Choices.{candidate_at}, LastYear.{form}, Tails.{beginning, candidates, end_of_last_year, names_of}, Texts.{text_of}, declared.candidate.Candidate.{Candidate}}
 use Rattle.zone_tail.specs.declared.candidate.Candidate.TheVariants.{Fixed, Ruled}
 
 -- n seconds from one on pass the test

@@ -1,6 +1,5 @@
 -- The line of a string.
-use Rattle.std.specs.Prelude.{ℕ, List, ◌++◌, Option, Some, None, ℤ, codes}
-use Rattle.std.specs.Fmt.{signed_decimal}
+use Rattle.std.specs.{Prelude.{ℕ, List, ◌++◌, Option, Some, None, ℤ, codes}, Fmt.{signed_decimal}}
 
 -- the second from which on it agrees, or `all`
 abbrev pub from_word : Option ℤ → List ℕ

@@ -1,16 +1,9 @@
 -- What is known of the candidates of a set whose tail has no fault.
 use Rattle.std.specs.Prelude.{◌≡◌, ℕ, ◌<◌, ◌≤◌, true, IsTrue, List, length, All, ℤ}
 use Rattle.zone_spans.specs.Schedules.{Schedule}
-use Rattle.tz_zone.specs.Sets.{schedule_of}
-use Rattle.tz_zone.specs.declared.set.FixedTimespanSet.{FixedTimespanSet}
-use Rattle.zone_tail.specs.Agreement.{Agrees}
-use Rattle.zone_tail.specs.Candidates.{IsAllowed, IsLast, IsSoundCandidate}
-use Rattle.zone_tail.specs.Choices.{candidate_at, IsChoice}
-use Rattle.zone_tail.specs.LastYear.{form}
-use Rattle.zone_tail.specs.Settled.{Settles}
-use Rattle.zone_tail.specs.Tails.{can_be_written, candidates, end_of_last_year, is_name, names_of}
-use Rattle.zone_tail.specs.declared.candidate.Candidate.{Candidate}
-use Rattle.zone_tail.specs.declared.candidate.Candidate.TheVariants.{Fixed, Ruled}
+use Rattle.tz_zone.specs.{Sets.{schedule_of}, declared.set.FixedTimespanSet.{FixedTimespanSet}}
+use Rattle.zone_tail.specs.{Agreement.{Agrees}, Candidates.{IsAllowed, IsLast, IsSoundCandidate}, Choices.{candidate_at, IsChoice}, LastYear.{form}, Settled.{Settles}, Tails.{can_be_written, candidates, end_of_last_year, is_name, names_of}}
+use Rattle.zone_tail.specs.declared.candidate.Candidate.{Candidate, TheVariants.{Fixed, Ruled}}
 
 -- from this span on every candidate agrees
 pub record AllAgree (list : List Candidate) (zone : Schedule) (last : ℤ) : Type 0 where

@@ -1,12 +1,8 @@
 -- Rules of each year, and the totals that they give seconds from 1970-01-01 00:00 UTC on.
 use Rattle.std.specs.Prelude.{◌<◌, IsTrue, ℤ, pos, neg_ℤ, ◌≤ℤ◌}
 use Rattle.civil_base.specs.Ranges.{IsOffset}
-use Rattle.tz_posix.specs.InForce.{YearlyTime, posix_total}
-use Rattle.tz_posix.specs.Ranges.{is_rule_date}
-use Rattle.tz_posix.specs.declared.date.Date.{Date}
-use Rattle.tz_posix.specs.declared.date.Date.TheVariants.{M}
-use Rattle.zone_tail.specs.declared.rule.Change.{Change}
-use Rattle.zone_tail.specs.declared.rule.YearlyRule.{YearlyRule}
+use Rattle.tz_posix.specs.{InForce.{YearlyTime, posix_total}, Ranges.{is_rule_date}, declared.date.Date.{Date}, declared.date.Date.TheVariants.{M}}
+use Rattle.zone_tail.specs.declared.rule.{Change.{Change}, YearlyRule.{YearlyRule}}
 
 abbrev pub date_of : Change → Date
 date_of change = M change.month change.week change.weekday

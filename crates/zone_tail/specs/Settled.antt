@@ -1,14 +1,9 @@
 -- Seconds at which the rule of the last year decides by itself: it has begun, and that of the year after hasn't.
-use Rattle.std.specs.Prelude.{◌≡◌, Bool, true, false, ◌||◌, ℤ, pos, ◌<ℤ◌, int_le}
-use Rattle.std.specs.List.{list_all}
+use Rattle.std.specs.{Prelude.{◌≡◌, Bool, true, false, ◌||◌, ℤ, pos, ◌<ℤ◌, int_le}, List.{list_all}}
 use Rattle.zone_spans.specs.Entries.{Entry}
 use Rattle.tz_zone.specs.declared.set.FixedTimespanSet.{FixedTimespanSet}
-use Rattle.tz_posix.specs.InForce.{YearlyTime, instant_in, year_at}
-use Rattle.tz_posix.specs.PosixZones.{PosixZone, ruled}
-use Rattle.zone_tail.specs.Rules.{time_of}
-use Rattle.zone_tail.specs.Tails.{end_of_last_year, is_ending_early}
-use Rattle.zone_tail.specs.declared.candidate.Candidate.{Candidate}
-use Rattle.zone_tail.specs.declared.candidate.Candidate.TheVariants.{Fixed, Ruled}
+use Rattle.tz_posix.specs.{InForce.{YearlyTime, instant_in, year_at}, PosixZones.{PosixZone, ruled}}
+use Rattle.zone_tail.specs.{Rules.{time_of}, Tails.{end_of_last_year, is_ending_early}, declared.candidate.Candidate.{Candidate}, declared.candidate.Candidate.TheVariants.{Fixed, Ruled}}
 
 -- the start or the end in a year is at or before a second
 abbrev pub has_begun_in : ℤ → ℤ → ℤ → YearlyTime → YearlyTime → ℤ → Bool

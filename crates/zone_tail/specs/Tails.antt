@@ -1,20 +1,10 @@
 -- The POSIX TZ string that stands for the tail of a set, from which entry on, and why there is none.
-use Rattle.std.specs.Prelude.{◌≡◌, ℕ, zero, suc, Bool, false, ◌&&◌, not, ◌==◌, nat_le, List, [], ◌∷◌, ◌++◌, length, map, Option, Some, None, if◌then◌else◌, ℤ, ◌+ℤ◌, ◌-ℤ◌, int_le, int_lt, unsigned_abs}
-use Rattle.std.specs.List.{list_all, list_any}
+use Rattle.std.specs.{Prelude.{◌≡◌, ℕ, zero, suc, Bool, false, ◌&&◌, not, ◌==◌, nat_le, List, [], ◌∷◌, ◌++◌, length, map, Option, Some, None, if◌then◌else◌, ℤ, ◌+ℤ◌, ◌-ℤ◌, int_le, int_lt, unsigned_abs}, List.{list_all, list_any}}
 use Rattle.zone_spans.specs.Entries.{Entry, total}
-use Rattle.tz_zone.specs.Sets.{schedule_of, shifts_of}
-use Rattle.tz_zone.specs.Spans.{Shift, shift_at}
-use Rattle.tz_zone.specs.declared.set.FixedTimespanSet.{FixedTimespanSet}
+use Rattle.tz_zone.specs.{Sets.{schedule_of, shifts_of}, Spans.{Shift, shift_at}, declared.set.FixedTimespanSet.{FixedTimespanSet}}
 use Rattle.tz_posix.specs.Marks.{less, greater}
-use Rattle.zone_tail.specs.Changes.{changes_at}
-use Rattle.zone_tail.specs.Choices.{candidate_at, IsChoice}
-use Rattle.zone_tail.specs.LastYear.{Form, steady, yearly, other, form, second_week, standard_of, year_end}
-use Rattle.zone_tail.specs.Texts.{text_of}
-use Rattle.zone_tail.specs.declared.candidate.Candidate.{Candidate}
-use Rattle.zone_tail.specs.declared.candidate.Candidate.TheVariants.{Fixed, Ruled}
-use Rattle.zone_tail.specs.declared.rule.Change.{Change}
-use Rattle.zone_tail.specs.declared.rule.YearlyRule.{YearlyRule}
-use Rattle.zone_tail.specs.declared.outcome.TailFault.{TailFault}
+use Rattle.zone_tail.specs.{Changes.{changes_at}, Choices.{candidate_at, IsChoice}, LastYear.{Form, steady, yearly, other, form, second_week, standard_of, year_end}, Texts.{text_of}, declared.candidate.Candidate.{Candidate}}
+use Rattle.zone_tail.specs.declared.{candidate.Candidate.TheVariants.{Fixed, Ruled}, rule.Change.{Change}, rule.YearlyRule.{YearlyRule}, outcome.TailFault.{TailFault}}
 use Rattle.zone_tail.specs.declared.outcome.TailFault.TheVariants as fault
 
 -- ---- the candidates

@@ -1,13 +1,6 @@
 -- The texts of candidates.
-use Rattle.std.specs.Prelude.{ℕ, ◌/◌, ◌%◌, Bool, ◌&&◌, ◌==◌, nat_le, nat_lt, List, [], ◌++◌, length, codes, if◌then◌else◌, ℤ, pos, ◌+ℤ◌, int_lt, unsigned_abs}
-use Rattle.std.specs.Char.{is_ascii_alphabetic}
-use Rattle.std.specs.Fmt.{decimal}
-use Rattle.std.specs.List.{list_all}
-use Rattle.std.specs.Ordering.{int_eq}
-use Rattle.zone_tail.specs.declared.candidate.Candidate.{Candidate}
-use Rattle.zone_tail.specs.declared.candidate.Candidate.TheVariants.{Fixed, Ruled}
-use Rattle.zone_tail.specs.declared.rule.Change.{Change}
-use Rattle.zone_tail.specs.declared.rule.YearlyRule.{YearlyRule}
+use Rattle.std.specs.{Prelude.{ℕ, ◌/◌, ◌%◌, Bool, ◌&&◌, ◌==◌, nat_le, nat_lt, List, [], ◌++◌, length, codes, if◌then◌else◌, ℤ, pos, ◌+ℤ◌, int_lt, unsigned_abs}, Char.{is_ascii_alphabetic}, Fmt.{decimal}, List.{list_all}, Ordering.{int_eq}}
+use Rattle.zone_tail.specs.declared.{candidate.Candidate.{Candidate}, candidate.Candidate.TheVariants.{Fixed, Ruled}, rule.Change.{Change}, rule.YearlyRule.{YearlyRule}}
 
 -- 3 to 16 ASCII letters
 abbrev pub is_plain : List ℕ → Bool

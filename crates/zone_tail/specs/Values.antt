@@ -1,17 +1,7 @@
 -- The value that a candidate's text spells, and the time zone that it stands for.
-use Rattle.std.specs.Prelude.{ℕ, ◌/◌, ◌%◌, ◌&&◌, ◌==◌, not, List, Option, Some, None, if◌then◌else◌, ℤ, pos, ◌+ℤ◌, int_lt, unsigned_abs}
-use Rattle.std.specs.Ordering.{int_eq}
-use Rattle.tz_posix.specs.PosixZones.{Named, PosixZone, fixed, ruled}
-use Rattle.tz_posix.specs.Values.{TzValue, expanded}
-use Rattle.tz_posix.specs.declared.date.Date.{Date}
-use Rattle.tz_posix.specs.declared.time.Offset.{Offset}
-use Rattle.tz_posix.specs.declared.time.Time.{Time}
-use Rattle.tz_posix.specs.declared.values.Rule.{Rule}
-use Rattle.zone_tail.specs.Rules.{date_of, time_of}
-use Rattle.zone_tail.specs.declared.candidate.Candidate.{Candidate}
-use Rattle.zone_tail.specs.declared.candidate.Candidate.TheVariants.{Fixed, Ruled}
-use Rattle.zone_tail.specs.declared.rule.Change.{Change}
-use Rattle.zone_tail.specs.declared.rule.YearlyRule.{YearlyRule}
+use Rattle.std.specs.{Prelude.{ℕ, ◌/◌, ◌%◌, ◌&&◌, ◌==◌, not, List, Option, Some, None, if◌then◌else◌, ℤ, pos, ◌+ℤ◌, int_lt, unsigned_abs}, Ordering.{int_eq}}
+use Rattle.tz_posix.specs.{PosixZones.{Named, PosixZone, fixed, ruled}, Values.{TzValue, expanded}, declared.date.Date.{Date}, declared.time.Offset.{Offset}, declared.time.Time.{Time}, declared.values.Rule.{Rule}}
+use Rattle.zone_tail.specs.{Rules.{date_of, time_of}, declared.candidate.Candidate.{Candidate}, declared.candidate.Candidate.TheVariants.{Fixed, Ruled}, declared.rule.Change.{Change}, declared.rule.YearlyRule.{YearlyRule}}
 
 abbrev pub minute_value : ℕ → ℕ → Option ℕ
 minute_value minute second = if minute == 0 && second == 0 then None else Some minute

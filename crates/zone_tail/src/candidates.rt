@@ -1,11 +1,7 @@
 //! The candidates of a set.
 ghost use Rattle.std.specs.Prelude.{◌≡◌, ◌++◌, ◌∷◌, [], OnOk, IfOk, map, None, ◌+ℤ◌, ◌≤ℤ◌, ◌<ℤ◌};
 ghost use Rattle.tz_zone.specs.Sets.{IsAccepted, schedule_of};
-ghost use Rattle.zone_tail.specs.Changes.{changes_at, changes_shown};
-ghost use Rattle.zone_tail.specs.LastYear.{standard_of, year_begin, year_end};
-ghost use Rattle.zone_tail.specs.Shapes.{IsForm};
-ghost use Rattle.zone_tail.specs.Tails.{candidates, rule_with, rules_with, tail_fault};
-ghost use Rattle.zone_tail.specs.declared.candidate.Candidate.TheVariants.{Ruled};
+ghost use Rattle.zone_tail.specs.{Changes.{changes_at, changes_shown}, LastYear.{standard_of, year_begin, year_end}, Shapes.{IsForm}, Tails.{candidates, rule_with, rules_with, tail_fault}, declared.candidate.Candidate.TheVariants.{Ruled}};
 ghost use Rattle.zone_tail.specs.declared.last_year.Form.TheVariants.{Yearly};
 
 use crate::candidate::Candidate;

@@ -1,8 +1,7 @@
 //! The changes of each year that come at a local second of the last year.
 ghost use Rattle.std.specs.Prelude.{◌≡◌, ◌≤◌, pos, ◌<ℤ◌, ◌≤ℤ◌};
 ghost use Rattle.basics.specs.Weekdays.{weekday_of};
-ghost use Rattle.zone_tail.specs.Changes.{changes_at, changes_shown, weeks, with_other};
-ghost use Rattle.zone_tail.specs.LastYear.{year_begin, year_end};
+ghost use Rattle.zone_tail.specs.{Changes.{changes_at, changes_shown, weeks, with_other}, LastYear.{year_begin, year_end}};
 
 use crate::rule::Change;
 use basics::{date_of, month_length, weekday};

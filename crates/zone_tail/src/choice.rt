@@ -1,9 +1,7 @@
 //! The candidate that stands for the tail of a set.
 ghost use Rattle.std.specs.Prelude.{ℕ, ◌<◌, All, length};
 ghost use Rattle.tz_zone.specs.Sets.{IsAccepted, schedule_of};
-ghost use Rattle.zone_tail.specs.Agreement.{Agrees, IsWalked};
-ghost use Rattle.zone_tail.specs.Candidates.{IsAllowed, IsLast, IsSoundCandidate};
-ghost use Rattle.zone_tail.specs.Choices.{candidate_at, IsBest, IsChoice};
+ghost use Rattle.zone_tail.specs.{Agreement.{Agrees, IsWalked}, Candidates.{IsAllowed, IsLast, IsSoundCandidate}, Choices.{candidate_at, IsBest, IsChoice}};
 
 use crate::candidate::Candidate;
 use crate::walk::walk;

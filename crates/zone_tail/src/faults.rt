@@ -1,12 +1,8 @@
 //! Why a set has no string.
-ghost use Rattle.std.specs.Prelude.{◌≡◌, ◌<◌, ◌&&◌, Some, if◌then◌else◌, length};
-ghost use Rattle.std.specs.List.{list_all};
+ghost use Rattle.std.specs.{Prelude.{◌≡◌, ◌<◌, ◌&&◌, Some, if◌then◌else◌, length}, List.{list_all}};
 ghost use Rattle.tz_zone.specs.Sets.{IsAccepted, schedule_of};
 ghost use Rattle.zone_spans.specs.Entries.{total};
-ghost use Rattle.zone_tail.specs.LastYear.{standard_of};
-ghost use Rattle.zone_tail.specs.Shapes.{IsForm, entry_in};
-ghost use Rattle.zone_tail.specs.Tails.{can_be_written, is_name, is_name_byte, named_or, tail_fault};
-ghost use Rattle.zone_tail.specs.declared.outcome.TailFault.TheVariants.{OffsetRange};
+ghost use Rattle.zone_tail.specs.{LastYear.{standard_of}, Shapes.{IsForm, entry_in}, Tails.{can_be_written, is_name, is_name_byte, named_or, tail_fault}, declared.outcome.TailFault.TheVariants.{OffsetRange}};
 
 use crate::last_year::Form;
 use crate::outcome::TailFault;

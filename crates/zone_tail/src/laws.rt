@@ -1,15 +1,10 @@
 //! Laws: a set and its string give one offset, a set has one string, and a string is one line.
-ghost use Rattle.std.specs.Prelude.{◌≡◌, ◌==◌, not, ◌&&◌, true, ℕ, ℤ, List, Ok, Option, Some, None};
-ghost use Rattle.std.specs.List.{list_all};
+ghost use Rattle.std.specs.{Prelude.{◌≡◌, ◌==◌, not, ◌&&◌, true, ℕ, ℤ, List, Ok, Option, Some, None}, List.{list_all}};
 ghost use Rattle.civil_base.specs.DateTimes.{instant};
 ghost use Rattle.zone_spans.specs.Schedules.{total_at};
-ghost use Rattle.tz_zone.specs.Sets.{IsAccepted, schedule_of};
-ghost use Rattle.tz_zone.specs.Zones.{set_of};
-ghost use Rattle.tz_zone.specs.declared.set.FixedTimespanSet.{FixedTimespanSet};
+ghost use Rattle.tz_zone.specs.{Sets.{IsAccepted, schedule_of}, Zones.{set_of}, declared.set.FixedTimespanSet.{FixedTimespanSet}};
 ghost use Rattle.tz_posix.specs.Parses.{IsParsed};
-ghost use Rattle.zone_tail.specs.Carried.{CarriesOn, IsCovered};
-ghost use Rattle.zone_tail.specs.Found.{found_from, found_text};
-ghost use Rattle.zone_tail.specs.Tails.{IsTail, tail_fault};
+ghost use Rattle.zone_tail.specs.{Carried.{CarriesOn, IsCovered}, Found.{found_from, found_text}, Tails.{IsTail, tail_fault}};
 
 use civil_base::{OffsetDateTime, UtcOffset};
 use tz_lookup::{Offset, TimeZone, Tz};

@@ -2,8 +2,7 @@
 ghost use Rattle.std.specs.Prelude.{◌≡◌, ℤ, pos, ◌-ℤ◌, ◌*ℤ◌, ◌≤ℤ◌, ◌<ℤ◌};
 ghost use Rattle.basics.specs.Days.{day as day_at, IsCountedYear};
 ghost use Rattle.civil_base.specs.Ranges.{IsOffset};
-ghost use Rattle.tz_posix.specs.InForce.{moments_in, year_at};
-ghost use Rattle.tz_posix.specs.Yearly.{moments_shown, time_shown};
+ghost use Rattle.tz_posix.specs.{InForce.{moments_in, year_at}, Yearly.{moments_shown, time_shown}};
 ghost use Rattle.zone_tail.specs.Rules.{IsChange, IsNearYear, IsReach, IsSound, rule_total, time_of};
 
 use civil_base::UtcOffset;

@@ -1,11 +1,6 @@
 //! The texts of candidates.
-ghost use Rattle.std.specs.Prelude.{◌≡◌, ◌++◌, IsTrue, OnOk, IfOk, string_bytes};
-ghost use Rattle.zone_tail.specs.Ready.{CanBeWritten, CanWriteRule};
-ghost use Rattle.zone_tail.specs.Tails.{can_be_written};
-ghost use Rattle.std.specs.Char.{is_ascii_alphabetic};
-ghost use Rattle.std.specs.Fmt.{decimal};
-ghost use Rattle.std.specs.List.{list_all};
-ghost use Rattle.zone_tail.specs.Texts.{change_text, clock_text, is_plain, minute_text, name_text, offset_text, rule_text, saving_text, second_text, text_of, time_text, two_digits};
+ghost use Rattle.std.specs.{Prelude.{◌≡◌, ◌++◌, IsTrue, OnOk, IfOk, string_bytes}, Char.{is_ascii_alphabetic}, Fmt.{decimal}, List.{list_all}};
+ghost use Rattle.zone_tail.specs.{Ready.{CanBeWritten, CanWriteRule}, Tails.{can_be_written}, Texts.{change_text, clock_text, is_plain, minute_text, name_text, offset_text, rule_text, saving_text, second_text, text_of, time_text, two_digits}};
 
 use crate::candidate::Candidate;
 use crate::rule::{Change, YearlyRule};

@@ -1,13 +1,9 @@
 -- The entry of a name, by what was found of it.
-use Rattle.std.proofs.Common.{◌≡◌, ℕ, List, cond, Err, sym, ap, ◌∙◌}
-use Rattle.std.specs.Prelude.{IsTrue}
-use Rattle.tz_zone.specs.Compiles.{spans_of, IsCompiledAs, IsTooFar}
-use Rattle.tz_zone.specs.Sets.{schedule_of}
-use Rattle.tz_zone.specs.declared.set.FixedTimespanSet.{FixedTimespanSet}
+use Rattle.std.{proofs.Common.{◌≡◌, ℕ, List, cond, Err, sym, ap, ◌∙◌}, specs.Prelude.{IsTrue}}
+use Rattle.tz_zone.specs.{Compiles.{spans_of, IsCompiledAs, IsTooFar}, Sets.{schedule_of}, declared.set.FixedTimespanSet.{FixedTimespanSet}}
 use Rattle.zone_run.specs.Causes.{named}
 use Rattle.zone_spans.specs.Schedules.{totals_of, is_in_offset_range}
-use Rattle.zone_tree.specs.Contents.{Found, file_unless, is_marked, zone_content}
-use Rattle.zone_tree.specs.declared.refusal.Why.TheVariants.{OffsetRange}
+use Rattle.zone_tree.specs.{Contents.{Found, file_unless, is_marked, zone_content}, declared.refusal.Why.TheVariants.{OffsetRange}}
 
 -- the zone that was found was compiled to this set, which can be looked up
 pub record Compiled (name : List ℕ) (found : Found) (set : FixedTimespanSet) : Type 0 where

@@ -1,47 +1,22 @@
 -- The archive of a table's zones for ever, and what a run writes of it.
 use Rattle.std.proofs.Common.{◌≡◌, ℕ, ◌+◌, ◌<◌, ◌≤◌, Bool, true, false, cond, ◌||◌, List, [], ◌∷◌, ◌++◌, map, drop, length, get_or, All, Option, Some, None, Result, Ok, Err, MatchOption, refl, sym, ap, ◌∙◌, subst, arith, append_assoc, append-nil, suc, pos}
-use Rattle.std.specs.Prelude.{bytes_eq}
-use Rattle.std.specs.Borrow.{Bor}
-use Rattle.std.specs.FinMap.{keys}
-use Rattle.std.specs.List.{list_any}
-use Rattle.std.proofs.lemmas.List.{drop_more, drop_all, map-append}
-use Rattle.std.proofs.lemmas.List.Elements.{All-nil, All-cons, All-append}
+use Rattle.std.proofs.lemmas.List.{drop_more, drop_all, map-append, Elements.{All-nil, All-cons, All-append}}
+use Rattle.std.specs.{Prelude.{bytes_eq}, Borrow.{Bor}, FinMap.{keys}, List.{list_any}}
 use Rattle.tz_lookup.specs.Databases.{name_shown}
-use Rattle.tz_ever.specs.Opens.{IsEverFault, IsFoundForEver}
-use Rattle.tz_ever.specs.declared.open.EverFault.{EverFault}
-use Rattle.tz_zone.specs.Sets.{span_in}
-use Rattle.tz_zone.specs.declared.set.FixedTimespanSet.{FixedTimespanSet}
-use Rattle.zone_source.specs.Faults.{SourceFault, source_fault}
-use Rattle.zone_source.specs.FaultLines.{source_line}
-use Rattle.zone_source.specs.Releases.{release_of}
-use Rattle.zone_source.specs.Responses.{IsLineOf}
-use Rattle.zone_tree.specs.ArchiveEntries.{Content, of_file, of_link}
-use Rattle.zone_source.specs.Told.{TellsOfSource, told_by_source}
-use Rattle.zone_source.specs.Zones.{values_of}
-use Rattle.zone_source.specs.declared.error.SourceError.{SourceError}
+use Rattle.tz_ever.specs.{Opens.{IsEverFault, IsFoundForEver}, declared.open.EverFault.{EverFault}}
+use Rattle.tz_zone.specs.{Sets.{span_in}, declared.set.FixedTimespanSet.{FixedTimespanSet}}
+use Rattle.zone_source.specs.{Faults.{SourceFault, source_fault}, FaultLines.{source_line}, Releases.{release_of}, Responses.{IsLineOf}, Told.{TellsOfSource, told_by_source}, Zones.{values_of}, declared.error.SourceError.{SourceError}}
 use Rattle.zone_source.specs.declared.error.SourceError.TheVariants as source_error
-use Rattle.zone_spans.specs.Entries.{Entry}
-use Rattle.zone_table.specs.Tables.{IsTableOf}
-use Rattle.zone_table.specs.declared.table.Table.{Table}
-use Rattle.zone_tree.specs.Contents.{has_mark, is_marked}
-use Rattle.zone_tree.specs.EverTold.{IsEverFaultOf, IsFirstEver, RefusesName, TellsWhy, made_shown}
-use Rattle.zone_tree.specs.EverTrees.{AreContents, Contents, HasContent, unopened, unwritten, IsEverCause, IsEverTree, OfSource, OfTree, content_in, file_why, zone_why}
-use Rattle.zone_tree.specs.EverWrites.{IsEverLine, IsFaultLine}
-use Rattle.zone_tree.specs.Names.{finds_by_table, finds_by}
-use Rattle.zone_tree.specs.Told.{IsFirst}
-use Rattle.zone_tree.specs.Trees.{Cause, Refused, of_name, of_source, or_cause, refused, tree_by, after_source}
-use Rattle.zone_tree.specs.declared.ever.Made.{Made}
-use Rattle.zone_tree.specs.declared.refusal.NameFault.{NameFault}
+use Rattle.zone_tree.specs.{ArchiveEntries.{Content, of_file, of_link}, Contents.{has_mark, is_marked}, EverTold.{IsEverFaultOf, IsFirstEver, RefusesName, TellsWhy, made_shown}}
+use Rattle.zone_tree.specs.{EverTrees.{AreContents, Contents, HasContent, unopened, unwritten, IsEverCause, IsEverTree, OfSource, OfTree, content_in, file_why, zone_why}, EverWrites.{IsEverLine, IsFaultLine}, Names.{finds_by_table, finds_by}, Told.{IsFirst}}
+use Rattle.zone_tree.specs.{Trees.{Cause, Refused, of_name, of_source, or_cause, refused, tree_by, after_source}, declared.ever.Made.{Made}, declared.refusal.NameFault.{NameFault}, declared.refusal.TreeFault.{TreeFault}, declared.refusal.Why.{Why}}
+use Rattle.zone_tree.specs.{declared.refusal.Why.TheVariants.{Name}, TreeShape.{IsTree}}
+use Rattle.zone_tree.proofs.{LawLemmas.{HasFiles, IsFile, ok_same, tree_with}, NameLemmas.{finds_same}}
 use Rattle.zone_tree.specs.declared.refusal.NameFault.TheVariants as name
-use Rattle.zone_tree.specs.declared.refusal.TreeFault.{TreeFault}
 use Rattle.zone_tree.specs.declared.refusal.TreeFault.TheVariants as tree
-use Rattle.zone_tree.specs.declared.refusal.Why.{Why}
-use Rattle.zone_tree.specs.declared.refusal.Why.TheVariants.{Name}
-use Rattle.zone_tzif.specs.EverFiles.{IsEverFileFault}
-use Rattle.zone_tzif.specs.declared.ever.EverFileFault.{EverFileFault}
-use Rattle.zone_tree.specs.TreeShape.{IsTree}
-use Rattle.zone_tree.proofs.LawLemmas.{HasFiles, IsFile, ok_same, tree_with}
-use Rattle.zone_tree.proofs.NameLemmas.{finds_same}
+use Rattle.zone_spans.specs.Entries.{Entry}
+use Rattle.zone_table.specs.{Tables.{IsTableOf}, declared.table.Table.{Table}}
+use Rattle.zone_tzif.specs.{EverFiles.{IsEverFileFault}, declared.ever.EverFileFault.{EverFileFault}}
 
 -- ---- marks
 

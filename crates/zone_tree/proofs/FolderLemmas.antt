@@ -1,22 +1,9 @@
 -- Names in byte order that begin with a front stand together, from the first that is no less than it on.
-use Rattle.std.proofs.Common.{◌≡◌, ℕ, zero, suc, ◌<◌, ◌≤◌, Bool, true, false, List, [], ◌∷◌, ◌++◌, length, map, drop, get_or, refl, sym, ap, ◌∙◌, arith}
-use Rattle.std.specs.Prelude.{◌||◌, nat_eq, slice_get}
-use Rattle.std.specs.FinMap.Entries.{below_all}
-use Rattle.std.specs.List.{list_any, starts_with}
-use Rattle.std.specs.List.Sorted.{IsPartitionPoint}
-use Rattle.std.specs.Option.{option_map_or}
-use Rattle.std.specs.Ordering.{is_lt, nat_cmp, ordering_then}
-use Rattle.std.specs.declared.cmp.Ordering.{Ordering}
-use Rattle.std.specs.declared.cmp.Ordering.TheVariants.{Less, Equal, Greater}
-use Rattle.std.specs.Cmp.{nat_cmp_is}
-use Rattle.std.proofs.lemmas.Cmp.{nat_list_cmp_total}
-use Rattle.std.proofs.Math.Bool.{or-false}
-use Rattle.std.proofs.lemmas.Bool.{and_parts, false_from_ne_true}
-use Rattle.std.proofs.lemmas.Bool.Decides.{Decides-eqb}
-use Rattle.std.proofs.lemmas.Slice.Eq.{starts_is}
-use Rattle.basics.specs.InOrderLaws.{RisesStrictly, tagged, less}
-use Rattle.basics.specs.Keyed.{text_cmp}
-use Rattle.std.specs.FinMap.{nat_cmp-IsAntisymmetric}
+use Rattle.std.proofs.{Common.{◌≡◌, ℕ, zero, suc, ◌<◌, ◌≤◌, Bool, true, false, List, [], ◌∷◌, ◌++◌, length, map, drop, get_or, refl, sym, ap, ◌∙◌, arith}, lemmas.Cmp.{nat_list_cmp_total}, Math.Bool.{or-false}, lemmas.Bool.{and_parts, false_from_ne_true}}
+use Rattle.std.proofs.lemmas.{Bool.Decides.{Decides-eqb}, Slice.Eq.{starts_is}}
+use Rattle.std.specs.{Prelude.{◌||◌, nat_eq, slice_get}, FinMap.Entries.{below_all}, List.{list_any, starts_with}, List.Sorted.{IsPartitionPoint}, Option.{option_map_or}, Ordering.{is_lt, nat_cmp, ordering_then}, declared.cmp.Ordering.{Ordering}}
+use Rattle.std.specs.{declared.cmp.Ordering.TheVariants.{Less, Equal, Greater}, Cmp.{nat_cmp_is}, FinMap.{nat_cmp-IsAntisymmetric}}
+use Rattle.basics.specs.{InOrderLaws.{RisesStrictly, tagged, less}, Keyed.{text_cmp}}
 
 abbrev pub begins : List ℕ → List ℕ → Bool
 begins front name = starts_with nat_eq name front

@@ -1,34 +1,16 @@
 -- The entries of an archive have the names that lines give, each finds a zone, and links stand behind what they are to.
-use Rattle.std.proofs.Common.{◌≡◌, ℕ, Bool, true, false, List, [], ◌∷◌, ◌++◌, All, not, reverse, cond, Option, Some, None, Result, Ok, Err, refl, sym, ap, ◌∙◌, subst}
-use Rattle.std.specs.Prelude.{◌&&◌, ◌||◌, is_some, bytes_eq, option_and_then, IsSomeAnd}
-use Rattle.std.specs.Cmp.{both_ways}
-use Rattle.std.specs.List.{AllByRecursion, list_any, flat_map}
-use Rattle.std.specs.Option.{option_or}
-use Rattle.std.specs.Ordering.{eq_by_cmp}
-use Rattle.std.proofs.lemmas.Bool.{and_from, or_left, or_right}
-use Rattle.std.proofs.lemmas.List.Elements.{All-nil, All-cons, All-append}
-use Rattle.std.proofs.lemmas.List.Folds.{list_any-append}
-use Rattle.std.proofs.lemmas.Map.Text.{is_eq-slice_cmp}
-use Rattle.std.proofs.lemmas.Slice.Eq.{bytes_eq-Decides}
-use Rattle.std.proofs.Math.Bool.{and-false}
-use Rattle.basics.specs.InOrderLaws.{any-in_order}
-use Rattle.basics.specs.Keyed.{text_cmp}
-use Rattle.basics.specs.KeyedLaws.{tied_texts}
-use Rattle.basics.specs.Listed.{listed}
-use Rattle.zone_tree.specs.Archives.{archive, IsArchive}
-use Rattle.zone_tree.specs.ArchiveEntries.{Content, of_file, of_link, EntryValue, entry}
-use Rattle.zone_tree.specs.ArchiveNames.{entry_fault}
-use Rattle.zone_tree.specs.declared.archive.entry.EntryFault.{EntryFault}
-use Rattle.zone_tree.specs.declared.archive.entry.EntryFault.TheVariants as fault_is
-use Rattle.zone_source.specs.Releases.{release_of}
-use Rattle.zone_run.specs.Causes.{named}
-use Rattle.zone_source.specs.Faults.{SourceFault, source_fault}
-use Rattle.zone_source.specs.Zones.{values_of, zone_in}
-use Rattle.zone_spans.specs.Schedules.{totals_of, is_in_offset_range}
-use Rattle.zone_table.specs.Joined.{zone_of, link_of}
-use Rattle.zone_table.specs.declared.zone.ZoneInfo.{ZoneInfo}
-use Rattle.zone_values.specs.Values.{LineValue}
+use Rattle.std.proofs.{Common.{◌≡◌, ℕ, Bool, true, false, List, [], ◌∷◌, ◌++◌, All, not, reverse, cond, Option, Some, None, Result, Ok, Err, refl, sym, ap, ◌∙◌, subst}, lemmas.Bool.{and_from, or_left, or_right}}
+use Rattle.std.proofs.{lemmas.List.Elements.{All-nil, All-cons, All-append}, lemmas.List.Folds.{list_any-append}, lemmas.Map.Text.{is_eq-slice_cmp}, lemmas.Slice.Eq.{bytes_eq-Decides}, Math.Bool.{and-false}}
+use Rattle.std.specs.{Prelude.{◌&&◌, ◌||◌, is_some, bytes_eq, option_and_then, IsSomeAnd}, Cmp.{both_ways}, List.{AllByRecursion, list_any, flat_map}, Option.{option_or}, Ordering.{eq_by_cmp}}
+use Rattle.basics.specs.{InOrderLaws.{any-in_order}, Keyed.{text_cmp}, KeyedLaws.{tied_texts}, Listed.{listed}}
+use Rattle.zone_tree.specs.{Archives.{archive, IsArchive}, ArchiveEntries.{Content, of_file, of_link, EntryValue, entry}, ArchiveNames.{entry_fault}, declared.archive.entry.EntryFault.{EntryFault}}
 use Rattle.zone_tree.specs.Contents.{Found, file_or, file_unless, is_marked, zone_content}
+use Rattle.zone_tree.specs.declared.archive.entry.EntryFault.TheVariants as fault_is
+use Rattle.zone_source.specs.{Releases.{release_of}, Faults.{SourceFault, source_fault}, Zones.{values_of, zone_in}}
+use Rattle.zone_run.specs.Causes.{named}
+use Rattle.zone_spans.specs.Schedules.{totals_of, is_in_offset_range}
+use Rattle.zone_table.specs.{Joined.{zone_of, link_of}, declared.zone.ZoneInfo.{ZoneInfo}}
+use Rattle.zone_values.specs.Values.{LineValue}
 use Rattle.zone_tree.specs.Entries.{
   link_content,
   content_of,
@@ -43,14 +25,11 @@ use Rattle.zone_tree.specs.Entries.{
   entry_of,
   release_entry,
 }
-use Rattle.zone_tree.specs.TreeShape.{are_behind, version_entries, IsTree}
-use Rattle.zone_tree.specs.Names.{Finds, finds_by, finds_in, found_in, given_names, names_by, others, archive_names}
-use Rattle.zone_tree.specs.Trees.{Refused, onto, entries_of, first_entries, before, joined, archive_of, tree_by, or_cause, after_source, tree_of}
-use Rattle.zone_tree.specs.declared.refusal.Why.{Why}
-use Rattle.zone_tree.specs.declared.refusal.Why.TheVariants.{OffsetRange, Link, Name}
+use Rattle.zone_tree.specs.{TreeShape.{are_behind, version_entries, IsTree}, Names.{Finds, finds_by, finds_in, found_in, given_names, names_by, others, archive_names}}
+use Rattle.zone_tree.specs.{Trees.{Refused, onto, entries_of, first_entries, before, joined, archive_of, tree_by, or_cause, after_source, tree_of}, declared.refusal.Why.{Why}, declared.refusal.Why.TheVariants.{OffsetRange, Link, Name}}
+use Rattle.zone_tree.proofs.NameLemmas.{text_same, zones_given, links_given, names_given}
 use Rattle.zone_tzif_core.specs.declared.values.WriteFault.{WriteFault}
 use Rattle.zone_tzif.specs.Files.{consistent_fault}
-use Rattle.zone_tree.proofs.NameLemmas.{text_same, zones_given, links_given, names_given}
 
 -- what is Ok, and else another value
 abbrev given : {A E : Type 0} → A → Result A E → A

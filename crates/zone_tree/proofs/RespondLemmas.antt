@@ -1,18 +1,10 @@
 -- What is due, by what was found.
 use Rattle.std.proofs.Common.{◌≡◌, ℕ, List, [], ◌∷◌, ◌++◌, Option, Some, None, Ok, Err, IsSome, MatchOption, refl, sym, ap, ◌∙◌, subst}
-use Rattle.zone_source.specs.Responses.{IsLineOf}
-use Rattle.zone_source.specs.FaultLines.{source_line}
-use Rattle.zone_source.specs.Faults.{SourceFault}
-use Rattle.zone_source.specs.Told.{told_by_source}
-use Rattle.zone_source.specs.declared.error.SourceError.{SourceError}
+use Rattle.zone_source.specs.{Responses.{IsLineOf}, FaultLines.{source_line}, Faults.{SourceFault}, Told.{told_by_source}, declared.error.SourceError.{SourceError}}
 use Rattle.zone_source.specs.declared.error.SourceError.TheVariants as source
-use Rattle.zone_tree.specs.Causes.{cause, due_bytes, cause_in, bytes_for, cause_line, name_line}
-use Rattle.zone_tree.specs.EverWrites.{IsFaultLine}
-use Rattle.zone_tree.specs.Told.{IsFaultOf}
-use Rattle.zone_tree.specs.Trees.{Cause, of_source, of_name, refused, tree_of}
-use Rattle.zone_tree.specs.declared.refusal.TreeFault.{TreeFault}
-use Rattle.zone_tree.specs.declared.refusal.TreeFault.TheVariants as tree
+use Rattle.zone_tree.specs.{Causes.{cause, due_bytes, cause_in, bytes_for, cause_line, name_line}, EverWrites.{IsFaultLine}, Told.{IsFaultOf}, Trees.{Cause, of_source, of_name, refused, tree_of}, declared.refusal.TreeFault.{TreeFault}}
 use Rattle.zone_tree.specs.declared.refusal.Why.{Why}
+use Rattle.zone_tree.specs.declared.refusal.TreeFault.TheVariants as tree
 
 pub answered : (text bytes : List ℕ) → tree_of text ≡ Ok bytes → (cause text ≡ None) × (bytes ≡ due_bytes text)
 unfolding cause due_bytes

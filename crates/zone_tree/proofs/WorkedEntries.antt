@@ -1,20 +1,13 @@
 -- The entry of each name, at worked rows.
-use Rattle.std.proofs.Common.{◌≡◌, ℕ, List, [], ◌∷◌, map, replicate, codes, Bool, true, false, Some, None, Ok, Err, refl, ap, ℤ, pos, negsuc}
-use Rattle.std.specs.Prelude.{bytes_eq, if◌then◌else◌, ◌||◌}
+use Rattle.std.{proofs.Common.{◌≡◌, ℕ, List, [], ◌∷◌, map, replicate, codes, Bool, true, false, Some, None, Ok, Err, refl, ap, ℤ, pos, negsuc}, specs.Prelude.{bytes_eq, if◌then◌else◌, ◌||◌}}
 use Rattle.tz_zone.specs.declared.set.FixedTimespanSet.{FixedTimespanSet}
-use Rattle.zone_tree.specs.Archives.{archive}
-use Rattle.zone_tree.specs.ArchiveEntries.{of_file, of_link, entry}
-use Rattle.zone_tree.specs.ArchiveNames.{cut, entry_fault, is_path}
+use Rattle.zone_tree.specs.{Archives.{archive}, ArchiveEntries.{of_file, of_link, entry}, ArchiveNames.{cut, entry_fault, is_path}, Contents.{Found, has_mark, is_marked, file_or, file_unless, zone_content}}
+use Rattle.zone_tree.specs.{Entries.{link_content, is_folder, is_reserved, is_taken, said, entry_by, entry_of}, TreeShape.{are_behind}, Names.{Finds, archive_names}, Trees.{entries_of, first_entries, joined, refused, tree_by}}
+use Rattle.zone_tree.specs.declared.refusal.Why.TheVariants.{Schedule, OffsetRange, Format, File, Link, Name, Size}
 use Rattle.zone_tree.specs.declared.archive.entry.EntryFault.TheVariants as entry_fault_is
 use Rattle.zone_spans.specs.Schedules.{totals_of}
 use Rattle.zone_spans.specs.declared.fault.SpanFault.TheVariants as span
 use Rattle.zone_spans.specs.declared.span.FixedTimespanSet as spans
-use Rattle.zone_tree.specs.Contents.{Found, has_mark, is_marked, file_or, file_unless, zone_content}
-use Rattle.zone_tree.specs.Entries.{link_content, is_folder, is_reserved, is_taken, said, entry_by, entry_of}
-use Rattle.zone_tree.specs.TreeShape.{are_behind}
-use Rattle.zone_tree.specs.Names.{Finds, archive_names}
-use Rattle.zone_tree.specs.Trees.{entries_of, first_entries, joined, refused, tree_by}
-use Rattle.zone_tree.specs.declared.refusal.Why.TheVariants.{Schedule, OffsetRange, Format, File, Link, Name, Size}
 use Rattle.zone_tzif_core.specs.declared.values.WriteFault.TheVariants as write
 use Rattle.zone_tzif.specs.Files.{consistent_fault, consistent_file}
 

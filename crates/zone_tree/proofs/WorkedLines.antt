@@ -1,12 +1,9 @@
 -- The line that tells why there is no archive, and what a run is to write, at worked rows.
-use Rattle.std.proofs.Common.{◌≡◌, [], ◌∷◌, ◌++◌, map, replicate, codes, Some, None, Ok, Err, refl}
-use Rattle.std.specs.Fmt.{digits}
+use Rattle.std.{proofs.Common.{◌≡◌, [], ◌∷◌, ◌++◌, map, replicate, codes, Some, None, Ok, Err, refl}, specs.Fmt.{digits}}
 use Rattle.zone_source.specs.Faults.{not_text}
 use Rattle.zone_spans.specs.declared.fault.SpanFault.TheVariants as span
 use Rattle.zone_tzif.specs.declared.outcome.EverTailFault.TheVariants as tail
-use Rattle.zone_tree.specs.Causes.{name_line, cause_line, cause_in, bytes_for}
-use Rattle.zone_tree.specs.Trees.{of_source, of_name, refused, after_source}
-use Rattle.zone_tree.specs.declared.refusal.Why.TheVariants.{Schedule, OffsetRange, RulesEnd, String, Format, File, Link, Name, Size}
+use Rattle.zone_tree.specs.{Causes.{name_line, cause_line, cause_in, bytes_for}, Trees.{of_source, of_name, refused, after_source}, declared.refusal.Why.TheVariants.{Schedule, OffsetRange, RulesEnd, String, Format, File, Link, Name, Size}}
 use Rattle.zone_tree.specs.Words.{asks_in, for_ever, to_2099}
 use Rattle.zone_tzif_core.specs.declared.values.WriteFault.TheVariants as write
 

@@ -1,9 +1,6 @@
 -- Which names a source has in its archive, at worked rows.
-use Rattle.std.proofs.Common.{◌≡◌, ℕ, List, [], ◌∷◌, map, reverse, codes, Some, None, true, false, refl}
-use Rattle.std.specs.List.{flat_map}
-use Rattle.std.proofs.lemmas.Cmp.{nat_list_cmp_total}
-use Rattle.basics.specs.InOrderLaws.{RisesStrictly, sorted_in_order, rises_from_sorted}
-use Rattle.basics.specs.Keyed.{text_cmp}
+use Rattle.std.{proofs.Common.{◌≡◌, ℕ, List, [], ◌∷◌, map, reverse, codes, Some, None, true, false, refl}, specs.List.{flat_map}, proofs.lemmas.Cmp.{nat_list_cmp_total}}
+use Rattle.basics.specs.{InOrderLaws.{RisesStrictly, sorted_in_order, rises_from_sorted}, Keyed.{text_cmp}}
 use Rattle.zone_source.specs.Zones.{values_of}
 use Rattle.zone_values.specs.Values.{InfoValue, RuleValue, space, zone, continuation, rule, link}
 use Rattle.zone_tree.specs.Names.{zone_names, link_names, names_by, finds_in, given_names, archive_names}

@@ -2,9 +2,7 @@
 use Rattle.std.specs.Prelude.{ℕ, List, [], ◌∷◌, ◌++◌, take, Option, Some, None, Result, Ok, Err, codes}
 use Rattle.zone_run.specs.Due.{labelled}
 use Rattle.zone_source.specs.FaultLines.{source_line}
-use Rattle.zone_tree.specs.Refusals.{group_of, word_of}
-use Rattle.zone_tree.specs.Trees.{Cause, of_source, of_name, tree_of}
-use Rattle.zone_tree.specs.declared.refusal.Why.{Why}
+use Rattle.zone_tree.specs.{Refusals.{group_of, word_of}, Trees.{Cause, of_source, of_name, tree_of}, declared.refusal.Why.{Why}}
 
 -- `tree Europe/Paris: schedule MissingUntil`: the name's first 255 bytes, and why it has no entry
 abbrev pub name_line : List ℕ → Why → List ℕ

@@ -1,12 +1,7 @@
 -- How a run ends.
 use Rattle.std.specs.Prelude.{ℕ, List, IsNone, Some}
-use Rattle.zone_source.specs.OneFile.{file_work}
-use Rattle.zone_source.specs.Runs.{Seen, Work, EndsOf, EndsOver}
-use Rattle.zone_source.specs.declared.running.Status.{Status}
-use Rattle.zone_tree.specs.Causes.{cause, due_bytes}
-use Rattle.zone_tree.specs.EverWrites.{ever_writes}
-use Rattle.zone_tree.specs.Trees.{Cause}
-use Rattle.zone_tree.specs.Words.{Asks, for_ever, to_2099}
+use Rattle.zone_source.specs.{OneFile.{file_work}, Runs.{Seen, Work, EndsOf, EndsOver}, declared.running.Status.{Status}}
+use Rattle.zone_tree.specs.{Causes.{cause, due_bytes}, EverWrites.{ever_writes}, Trees.{Cause}, Words.{Asks, for_ever, to_2099}}
 
 -- what the program does to 2099 with the file that its words name
 abbrev pub work : Work (List ℕ) Cause

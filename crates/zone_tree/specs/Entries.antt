@@ -1,13 +1,8 @@
 -- The entry of a name.
-use Rattle.std.specs.Prelude.{ℕ, List, [], ◌∷◌, ◌++◌, ◌||◌, nat_eq, Bool, Option, Some, None, Result, Ok, Err, codes, if◌then◌else◌}
-use Rattle.std.specs.List.{list_any, starts_with}
-use Rattle.zone_tree.specs.ArchiveEntries.{Content, of_file, of_link, EntryValue, entry}
-use Rattle.zone_tree.specs.ArchiveNames.{entry_fault}
-use Rattle.zone_tree.specs.declared.archive.entry.EntryFault.{EntryFault}
-use Rattle.zone_tree.specs.declared.archive.entry.EntryFault.TheVariants as entry_fault
-use Rattle.zone_tree.specs.Names.{Finds}
-use Rattle.zone_tree.specs.declared.refusal.Why.{Why}
+use Rattle.std.specs.{Prelude.{ℕ, List, [], ◌∷◌, ◌++◌, ◌||◌, nat_eq, Bool, Option, Some, None, Result, Ok, Err, codes, if◌then◌else◌}, List.{list_any, starts_with}}
+use Rattle.zone_tree.specs.{ArchiveEntries.{Content, of_file, of_link, EntryValue, entry}, ArchiveNames.{entry_fault}, declared.archive.entry.EntryFault.{EntryFault}, Names.{Finds}, declared.refusal.Why.{Why}}
 use Rattle.zone_tree.specs.declared.refusal.Why.TheVariants.{Link, Name, Size}
+use Rattle.zone_tree.specs.declared.archive.entry.EntryFault.TheVariants as entry_fault
 
 -- a hard link to the name of a zone; a link to any other name finds no zone
 abbrev pub link_content : (List ℕ → Bool) → Option (List ℕ) → Result Content Why

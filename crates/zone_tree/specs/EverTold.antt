@@ -1,17 +1,12 @@
 -- What the code's answers tell of archives for ever.
 use Rattle.std.specs.Prelude.{◌≡◌, ℕ, List, Option, Some, None, Err, MatchOption, Result, Ok}
-use Rattle.zone_tree.specs.ArchiveEntries.{Content, of_file}
+use Rattle.zone_tree.specs.{ArchiveEntries.{Content, of_file}, EverTrees.{HasContent, IsEverCause, OfTree}, Trees.{of_name, of_source, refused}, declared.ever.Made.{Made}, declared.refusal.NameFault.{NameFault}, declared.refusal.TreeFault.{TreeFault}}
+use Rattle.zone_tree.specs.declared.refusal.Why.{Why}
+use Rattle.zone_tree.specs.declared.refusal.NameFault.TheVariants as name
+use Rattle.zone_tree.specs.declared.refusal.TreeFault.TheVariants as tree
 use Rattle.zone_source.specs.Told.{told_by_source}
 use Rattle.zone_source.specs.declared.error.SourceError.TheVariants as source
 use Rattle.zone_table.specs.declared.table.Table.{Table}
-use Rattle.zone_tree.specs.EverTrees.{HasContent, IsEverCause, OfTree}
-use Rattle.zone_tree.specs.Trees.{of_name, of_source, refused}
-use Rattle.zone_tree.specs.declared.ever.Made.{Made}
-use Rattle.zone_tree.specs.declared.refusal.NameFault.{NameFault}
-use Rattle.zone_tree.specs.declared.refusal.NameFault.TheVariants as name
-use Rattle.zone_tree.specs.declared.refusal.TreeFault.{TreeFault}
-use Rattle.zone_tree.specs.declared.refusal.TreeFault.TheVariants as tree
-use Rattle.zone_tree.specs.declared.refusal.Why.{Why}
 
 -- what was made of a zone
 abbrev pub content_made : List ℕ → Option Why → Result Content Why

@@ -1,30 +1,17 @@
 -- The archive of a table's zones for ever.
-use Rattle.std.specs.Prelude.{◌≡◌, ℕ, List, [], ◌∷◌, map, true, false, All, Option, Some, None, Result, Ok, Err, bytes_eq, if◌then◌else◌}
-use Rattle.std.specs.FinMap.{keys}
-use Rattle.tz_ever.specs.Opens.{IsEverFault, IsFoundForEver}
-use Rattle.tz_ever.specs.declared.open.EverFault.{EverFault}
-use Rattle.tz_ever.specs.declared.open.EverFault.TheVariants.{LaterDay, LaterOffset, RulesEnd as Ending, Zone}
-use Rattle.tz_zone.specs.declared.compile.ZoneFault.TheVariants as zone
+use Rattle.std.specs.{Prelude.{◌≡◌, ℕ, List, [], ◌∷◌, map, true, false, All, Option, Some, None, Result, Ok, Err, bytes_eq, if◌then◌else◌}, FinMap.{keys}}
+use Rattle.tz_ever.specs.{Opens.{IsEverFault, IsFoundForEver}, declared.open.EverFault.{EverFault}, declared.open.EverFault.TheVariants.{LaterDay, LaterOffset, RulesEnd as Ending, Zone}}
 use Rattle.tz_zone.specs.declared.set.FixedTimespanSet.{FixedTimespanSet}
-use Rattle.zone_tree.specs.ArchiveEntries.{Content, of_file, of_link}
-use Rattle.zone_source.specs.Faults.{source_fault}
-use Rattle.zone_source.specs.Releases.{release_of}
-use Rattle.zone_source.specs.Zones.{values_of}
-use Rattle.zone_spans.specs.declared.fault.SpanFault.TheVariants.{DayRange}
-use Rattle.zone_table.specs.Tables.{IsTableOf}
-use Rattle.zone_table.specs.declared.table.Table.{Table}
-use Rattle.zone_tzif.specs.declared.outcome.EverTailFault.{EverTailFault}
-use Rattle.zone_tzif.specs.declared.outcome.EverTailFault.TheVariants as tail
-use Rattle.zone_tree.specs.Contents.{is_marked}
-use Rattle.zone_tree.specs.Names.{finds_by_table}
-use Rattle.zone_tree.specs.Trees.{Cause, Refused, of_source, or_cause, tree_by}
-use Rattle.zone_tree.specs.declared.refusal.Why.{Why}
+use Rattle.tz_zone.specs.declared.compile.ZoneFault.TheVariants as zone
+use Rattle.zone_tree.specs.{ArchiveEntries.{Content, of_file, of_link}, Contents.{is_marked}, Names.{finds_by_table}, Trees.{Cause, Refused, of_source, or_cause, tree_by}, declared.refusal.Why.{Why}}
 use Rattle.zone_tree.specs.declared.refusal.Why.TheVariants as why
-use Rattle.zone_tzif_core.specs.declared.values.WriteFault.TheVariants as write
-use Rattle.zone_tzif.specs.EverFiles.{IsEverFile, IsEverFileFault}
-use Rattle.zone_tzif.specs.declared.ever.EverFileFault.{EverFileFault}
-use Rattle.zone_tzif.specs.declared.ever.EverFileFault.TheVariants.{Footer, File}
+use Rattle.zone_source.specs.{Faults.{source_fault}, Releases.{release_of}, Zones.{values_of}}
+use Rattle.zone_spans.specs.declared.fault.SpanFault.TheVariants.{DayRange}
+use Rattle.zone_table.specs.{Tables.{IsTableOf}, declared.table.Table.{Table}}
+use Rattle.zone_tzif.specs.{declared.outcome.EverTailFault.{EverTailFault}, EverFiles.{IsEverFile, IsEverFileFault}, declared.ever.EverFileFault.{EverFileFault}, declared.ever.EverFileFault.TheVariants.{Footer, File}}
+use Rattle.zone_tzif.specs.declared.outcome.EverTailFault.TheVariants as tail
 use Rattle.zone_tzif.specs.declared.file.FileFault.TheVariants as file
+use Rattle.zone_tzif_core.specs.declared.values.WriteFault.TheVariants as write
 
 -- ---- what a zone has
 

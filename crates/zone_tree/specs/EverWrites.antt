@@ -1,18 +1,9 @@
 -- What a run for ever writes.
 use Rattle.std.specs.Prelude.{◌≡◌, ◌⊎◌, ℕ, List, [], ◌∷◌, ◌++◌, Result, Ok, Err}
 use Rattle.zone_outside.specs.Seen.{OutputSeen, Grew, GrewBySome}
-use Rattle.zone_source.specs.FaultLines.{source_line}
-use Rattle.zone_source.specs.Responses.{IsLineOf}
-use Rattle.zone_source.specs.Runs.{Writes}
-use Rattle.zone_source.specs.Told.{told_by_source}
-use Rattle.zone_source.specs.declared.response.Response.{Response}
-use Rattle.zone_source.specs.declared.response.Response.TheVariants.{Answer, Fault}
-use Rattle.zone_source.specs.declared.running.Status.{Status}
+use Rattle.zone_source.specs.{FaultLines.{source_line}, Responses.{IsLineOf}, Runs.{Writes}, Told.{told_by_source}, declared.response.Response.{Response}, declared.response.Response.TheVariants.{Answer, Fault}, declared.running.Status.{Status}}
 use Rattle.zone_source.specs.declared.running.Status.TheVariants as status
-use Rattle.zone_tree.specs.Causes.{cause_line, name_line}
-use Rattle.zone_tree.specs.EverTrees.{IsEverCause, IsEverTree}
-use Rattle.zone_tree.specs.Trees.{Cause}
-use Rattle.zone_tree.specs.declared.refusal.TreeFault.{TreeFault}
+use Rattle.zone_tree.specs.{Causes.{cause_line, name_line}, EverTrees.{IsEverCause, IsEverTree}, Trees.{Cause}, declared.refusal.TreeFault.{TreeFault}}
 use Rattle.zone_tree.specs.declared.refusal.TreeFault.TheVariants as tree
 
 -- the line of the first cause that there is no archive, and a line feed

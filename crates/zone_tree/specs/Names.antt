@@ -1,18 +1,11 @@
 -- The names that the lines of a source give to zones and links, and what they find.
-use Rattle.std.specs.Prelude.{ℕ, Bool, not, List, [], ◌∷◌, ◌++◌, filter, reverse, is_some, Option, option_map, Result}
-use Rattle.std.specs.FinMap.{get, keys}
-use Rattle.std.specs.List.{flat_map}
-use Rattle.basics.specs.InOrder.{in_order}
-use Rattle.basics.specs.Keyed.{text_cmp}
-use Rattle.basics.specs.Listed.{listed}
+use Rattle.std.specs.{Prelude.{ℕ, Bool, not, List, [], ◌∷◌, ◌++◌, filter, reverse, is_some, Option, option_map, Result}, FinMap.{get, keys}, List.{flat_map}}
+use Rattle.basics.specs.{InOrder.{in_order}, Keyed.{text_cmp}, Listed.{listed}}
 use Rattle.tz_zone.specs.Compiles.{compiled_in}
-use Rattle.zone_tree.specs.ArchiveEntries.{Content}
+use Rattle.zone_tree.specs.{ArchiveEntries.{Content}, Contents.{Found, zone_content}, declared.refusal.Why.{Why}}
 use Rattle.zone_source.specs.Zones.{rules_in, values_of, zone_in}
 use Rattle.zone_spans.specs.Compiled.{compiled}
-use Rattle.zone_table.specs.Joined.{zone_of, link_of}
-use Rattle.zone_table.specs.declared.table.Table.{Table}
-use Rattle.zone_tree.specs.Contents.{Found, zone_content}
-use Rattle.zone_tree.specs.declared.refusal.Why.{Why}
+use Rattle.zone_table.specs.{Joined.{zone_of, link_of}, declared.table.Table.{Table}}
 use Rattle.zone_values.specs.Values.{LineValue, zone, link}
 
 -- the name that a line gives to a zone

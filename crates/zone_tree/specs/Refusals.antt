@@ -1,11 +1,9 @@
 -- Why a name has no entry, and what the line of that says.
 use Rattle.std.specs.Prelude.{ℕ, List, [], codes}
 use Rattle.zone_spans.specs.FaultNames.{fault_name}
-use Rattle.zone_tzif.specs.declared.outcome.EverTailFault.{EverTailFault}
+use Rattle.zone_tzif.specs.{declared.outcome.EverTailFault.{EverTailFault}, Asks.{fault_word}}
 use Rattle.zone_tzif.specs.declared.outcome.EverTailFault.TheVariants as tail
-use Rattle.zone_tree.specs.declared.refusal.Why.{Why}
-use Rattle.zone_tree.specs.declared.refusal.Why.TheVariants.{Schedule, OffsetRange, RulesEnd, String, Format, File, Link, Name, Size}
-use Rattle.zone_tzif.specs.Asks.{fault_word}
+use Rattle.zone_tree.specs.declared.refusal.Why.{Why, TheVariants.{Schedule, OffsetRange, RulesEnd, String, Format, File, Link, Name, Size}}
 
 -- what stands before the word
 abbrev pub group_of : Why → List ℕ

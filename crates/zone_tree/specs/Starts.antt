@@ -1,8 +1,6 @@
 -- How the program ends that was started.
-use Rattle.zone_source.specs.Starts.{Run, Starts, over_file}
-use Rattle.zone_source.specs.declared.starting.Started.{Started}
-use Rattle.zone_tree.specs.Ends.{Ends}
-use Rattle.zone_tree.specs.Words.{asks_of}
+use Rattle.zone_source.specs.{Starts.{Run, Starts, over_file}, declared.starting.Started.{Started}}
+use Rattle.zone_tree.specs.{Ends.{Ends}, Words.{asks_of}}
 
 -- how its run ends, by what its words ask
 abbrev pub tree_run : Run

@@ -1,16 +1,10 @@
 -- What the code's answers tell.
-use Rattle.std.specs.Prelude.{◌≡◌, ℕ, List, ◌++◌, Result, Ok, Err, MatchOption}
-use Rattle.std.specs.List.{flat_map}
-use Rattle.zone_tree.specs.Archives.{entry_bytes}
-use Rattle.zone_tree.specs.ArchiveEntries.{EntryValue}
+use Rattle.std.specs.{Prelude.{◌≡◌, ℕ, List, ◌++◌, Result, Ok, Err, MatchOption}, List.{flat_map}}
+use Rattle.zone_tree.specs.{Archives.{entry_bytes}, ArchiveEntries.{EntryValue}, Trees.{Refused, refused, Cause, of_source, of_name}, declared.refusal.NameFault.{NameFault}, declared.refusal.TreeFault.{TreeFault}, declared.refusal.Why.{Why}}
+use Rattle.zone_tree.specs.declared.refusal.NameFault.TheVariants as name
+use Rattle.zone_tree.specs.declared.refusal.TreeFault.TheVariants as tree
 use Rattle.zone_source.specs.Told.{told_by_source}
 use Rattle.zone_source.specs.declared.error.SourceError.TheVariants as source
-use Rattle.zone_tree.specs.Trees.{Refused, refused, Cause, of_source, of_name}
-use Rattle.zone_tree.specs.declared.refusal.NameFault.{NameFault}
-use Rattle.zone_tree.specs.declared.refusal.NameFault.TheVariants as name
-use Rattle.zone_tree.specs.declared.refusal.TreeFault.{TreeFault}
-use Rattle.zone_tree.specs.declared.refusal.TreeFault.TheVariants as tree
-use Rattle.zone_tree.specs.declared.refusal.Why.{Why}
 
 -- the fault is why; want of memory may come in place of any
 abbrev pub IsWhy : {A : Type 0} → Result A Why → NameFault → Type 0

@@ -1,12 +1,7 @@
 -- What holds of each archive.
-use Rattle.std.specs.Prelude.{◌≡◌, ◌&&◌, ℕ, Bool, true, false, List, [], ◌∷◌, ◌++◌, Option, Some, None, bytes_eq, is_some}
-use Rattle.std.specs.List.{list_any}
-use Rattle.zone_tree.specs.Archives.{IsArchive}
-use Rattle.zone_tree.specs.ArchiveEntries.{Content, of_file, of_link, EntryValue, entry}
-use Rattle.zone_source.specs.Releases.{release_of}
-use Rattle.zone_source.specs.Zones.{zone_in}
-use Rattle.zone_tree.specs.Entries.{version_name}
-use Rattle.zone_tree.specs.Names.{given_names}
+use Rattle.std.specs.{Prelude.{◌≡◌, ◌&&◌, ℕ, Bool, true, false, List, [], ◌∷◌, ◌++◌, Option, Some, None, bytes_eq, is_some}, List.{list_any}}
+use Rattle.zone_tree.specs.{Archives.{IsArchive}, ArchiveEntries.{Content, of_file, of_link, EntryValue, entry}, Entries.{version_name}, Names.{given_names}}
+use Rattle.zone_source.specs.{Releases.{release_of}, Zones.{zone_in}}
 
 -- a link is to one of these names
 abbrev pub is_to : List (List ℕ) → Content → Bool

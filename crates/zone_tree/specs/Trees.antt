@@ -1,12 +1,7 @@
 -- The archive of a source.
 use Rattle.std.specs.Prelude.{ℕ, List, [], ◌∷◌, ◌++◌, Option, Some, None, Result, Ok, Err}
-use Rattle.zone_tree.specs.Archives.{archive}
-use Rattle.zone_tree.specs.ArchiveEntries.{EntryValue}
-use Rattle.zone_source.specs.Releases.{release_of}
-use Rattle.zone_source.specs.Faults.{SourceFault, source_fault}
-use Rattle.zone_tree.specs.Entries.{version_name, entry_of, release_entry}
-use Rattle.zone_tree.specs.Names.{Finds, finds_in, archive_names}
-use Rattle.zone_tree.specs.declared.refusal.Why.{Why}
+use Rattle.zone_tree.specs.{Archives.{archive}, ArchiveEntries.{EntryValue}, Entries.{version_name, entry_of, release_entry}, Names.{Finds, finds_in, archive_names}, declared.refusal.Why.{Why}}
+use Rattle.zone_source.specs.{Releases.{release_of}, Faults.{SourceFault, source_fault}}
 
 -- a name that has no entry, and why
 pub record Refused : Type 0 where

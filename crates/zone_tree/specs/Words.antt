@@ -1,6 +1,5 @@
 -- What the words of a run ask.
-use Rattle.std.specs.Prelude.{ℕ, List, [], ◌∷◌, map, String, string_bytes, Option, Some, None, bytes_eq, codes, if◌then◌else◌}
-use Rattle.std.specs.declared.alloc.Global.{Global}
+use Rattle.std.specs.{Prelude.{ℕ, List, [], ◌∷◌, map, String, string_bytes, Option, Some, None, bytes_eq, codes, if◌then◌else◌}, declared.alloc.Global.{Global}}
 use Rattle.zone_source.specs.FileWords.{file_in}
 
 -- the archive of a file to 2099, or of none, where the words are in no form; or that of a file for ever

@@ -1,21 +1,15 @@
 //! The entry of a name.
-ghost use Rattle.std.specs.Prelude.{◌≡◌, map as each, is_some, IfErr, OnOk};
-ghost use Rattle.std.specs.FinMap.{get, keys};
-ghost use Rattle.basics.specs.InOrderLaws.{RisesStrictly};
-ghost use Rattle.basics.specs.Keyed.{text_cmp};
+ghost use Rattle.std.specs.{Prelude.{◌≡◌, map as each, is_some, IfErr, OnOk}, FinMap.{get, keys}};
+ghost use Rattle.basics.specs.{InOrderLaws.{RisesStrictly}, Keyed.{text_cmp}};
 ghost use Rattle.tz_lookup.specs.Databases.{name_shown};
-ghost use Rattle.zone_tree.specs.ArchiveEntries.{content_shown};
-ghost use Rattle.zone_tree.specs.Entries.{link_content, fitting, entry_by, entry_with, entry_of, release_entry};
-ghost use Rattle.zone_tree.specs.Names.{finds_by_table};
-ghost use Rattle.zone_tree.specs.Shown.{all_names};
-ghost use Rattle.zone_tree.specs.Told.{IsPut, IsWhy};
+ghost use Rattle.zone_tree.specs.{ArchiveEntries.{content_shown}, Entries.{link_content, fitting, entry_by, entry_with, entry_of, release_entry}, Names.{finds_by_table}, Shown.{all_names}, Told.{IsPut, IsWhy}};
 
+use crate::archive::{Content, EntryFault, entry_fault, put_entry};
 use crate::files::ZoneFiles;
 use crate::folder::is_taken;
 use crate::names::{Names, is_zone};
 use crate::refusal::{NameFault, Why};
 use std::alloc::Global;
-use crate::archive::{Content, EntryFault, entry_fault, put_entry};
 use zone_table::Table;
 
 /// The name of the file that says a source's release, as compiled trees of distributions have it.

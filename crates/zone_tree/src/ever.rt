@@ -1,12 +1,8 @@
 //! The files of zones that go on for ever.
-ghost use Rattle.std.specs.Prelude.{◌≡◌, Err, IfErr, IfOk, IsTrue, Ok, map};
-ghost use Rattle.std.specs.FinMap.{keys};
-ghost use Rattle.tz_ever.specs.EverShown.{ever_seen};
-ghost use Rattle.tz_ever.specs.Opens.{IsFoundForEver};
-ghost use Rattle.zone_tree.specs.ArchiveEntries.{of_file};
+ghost use Rattle.std.specs.{Prelude.{◌≡◌, Err, IfErr, IfOk, IsTrue, Ok, map}, FinMap.{keys}};
+ghost use Rattle.tz_ever.specs.{EverShown.{ever_seen}, Opens.{IsFoundForEver}};
+ghost use Rattle.zone_tree.specs.{ArchiveEntries.{of_file}, EverTold.{RefusesName, TellsWhy, made_shown}, EverTrees.{AreContents, HasContent, HasFile, file_why, footer_why, zone_why}};
 ghost use Rattle.zone_table.specs.BoundedTables.{IsBoundedTable};
-ghost use Rattle.zone_tree.specs.EverTold.{RefusesName, TellsWhy, made_shown};
-ghost use Rattle.zone_tree.specs.EverTrees.{AreContents, HasContent, HasFile, file_why, footer_why, zone_why};
 
 use crate::files::{ZoneFiles, is_marked};
 use crate::refusal::{NameFault, Why};
@@ -35,8 +31,7 @@ pub(crate) struct EverFiles<'t> {
 impl<'t> EverFiles<'t> {
     ghost use Rattle.std.specs.Prelude.{IfOk, map};
     ghost use Rattle.zone_table.specs.BoundedTables.{IsBoundedTable};
-    ghost use Rattle.zone_tree.specs.EverTold.{made_shown};
-    ghost use Rattle.zone_tree.specs.EverTrees.{AreContents};
+    ghost use Rattle.zone_tree.specs.{EverTold.{made_shown}, EverTrees.{AreContents}};
 
     /// Each zone opened for ever, and its file.
     pub(crate) fn of(alloc: Global, table: &'t Table) -> Result<EverFiles<'t>, AllocError>
@@ -54,8 +49,7 @@ impl<'t> EverFiles<'t> {
 
 impl<'t> ZoneFiles for EverFiles<'t> {
     ghost use Rattle.std.specs.Prelude.{map};
-    ghost use Rattle.zone_tree.specs.EverTold.{made_shown};
-    ghost use Rattle.zone_tree.specs.EverTrees.{content_in};
+    ghost use Rattle.zone_tree.specs.{EverTold.{made_shown}, EverTrees.{content_in}};
 
     ghost ready = { λ _. Unit {0} };
 
@@ -73,9 +67,7 @@ impl<'t> ZoneFiles for EverFiles<'t> {
 
 impl<'t> Made<'t> {
     ghost use Rattle.std.specs.Prelude.{◌≡◌, IfErr, IfOk, Ok};
-    ghost use Rattle.zone_tree.specs.ArchiveEntries.{of_file};
-    ghost use Rattle.zone_tree.specs.EverTold.{made_shown};
-    ghost use Rattle.zone_tree.specs.Told.{IsWhy};
+    ghost use Rattle.zone_tree.specs.{ArchiveEntries.{of_file}, EverTold.{made_shown}, Told.{IsWhy}};
 
     /// The file once more.
     fn file_again(&self, alloc: Global) -> Result<Vec<u8>, NameFault>

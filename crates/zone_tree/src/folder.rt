@@ -1,13 +1,8 @@
 //! Names that others stand in.
-ghost use Rattle.std.specs.Prelude.{◌≡◌, nat_eq, slice_get, false, map as each, IfOk};
-ghost use Rattle.std.specs.Option.{option_map_or};
-ghost use Rattle.std.specs.Ordering.{is_lt};
-ghost use Rattle.std.specs.List.{list_any, starts_with};
-ghost use Rattle.basics.specs.InOrderLaws.{RisesStrictly};
-ghost use Rattle.basics.specs.Keyed.{text_cmp};
+ghost use Rattle.std.specs.{Prelude.{◌≡◌, nat_eq, slice_get, false, map as each, IfOk}, Option.{option_map_or}, Ordering.{is_lt}, List.{list_any, starts_with}};
+ghost use Rattle.basics.specs.{InOrderLaws.{RisesStrictly}, Keyed.{text_cmp}};
 ghost use Rattle.tz_lookup.specs.Databases.{name_shown};
-ghost use Rattle.zone_tree.specs.Entries.{is_taken};
-ghost use Rattle.zone_tree.specs.Shown.{all_names};
+ghost use Rattle.zone_tree.specs.{Entries.{is_taken}, Shown.{all_names}};
 
 use crate::names::Names;
 use std::alloc::{AllocError, Global};

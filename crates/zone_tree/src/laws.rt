@@ -1,14 +1,8 @@
 //! Laws of the archives of sources.
 ghost use Rattle.std.specs.Prelude.{◌≡◌, ℕ, List, None, Ok};
-ghost use Rattle.zone_source.specs.Faults.{source_fault};
-ghost use Rattle.zone_source.specs.Releases.{release_of};
-ghost use Rattle.zone_source.specs.Zones.{values_of};
-ghost use Rattle.zone_table.specs.Tables.{IsTableOf};
-ghost use Rattle.zone_table.specs.declared.table.Table.{Table};
-ghost use Rattle.zone_tree.specs.EverTrees.{IsEverTree};
-ghost use Rattle.zone_tree.specs.Names.{finds_in_table};
-ghost use Rattle.zone_tree.specs.TreeShape.{IsTree};
-ghost use Rattle.zone_tree.specs.Trees.{or_cause, tree_by, tree_of};
+ghost use Rattle.zone_source.specs.{Faults.{source_fault}, Releases.{release_of}, Zones.{values_of}};
+ghost use Rattle.zone_table.specs.{Tables.{IsTableOf}, declared.table.Table.{Table}};
+ghost use Rattle.zone_tree.specs.{EverTrees.{IsEverTree}, Names.{finds_in_table}, TreeShape.{IsTree}, Trees.{or_cause, tree_by, tree_of}};
 
 /// In the archive of a source a name has an entry exactly where a line gives it to a zone or by a link, so none of the source is
 /// left out, and exactly where it finds a zone; none has the name of the file that says the release, which comes first where the source

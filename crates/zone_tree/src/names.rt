@@ -1,6 +1,5 @@
 //! The names of an archive.
-ghost use Rattle.std.specs.Prelude.{◌≡◌, ◌++◌, map as each, is_some, IfOk, OnOk};
-ghost use Rattle.std.specs.FinMap.{get, keys};
+ghost use Rattle.std.specs.{Prelude.{◌≡◌, ◌++◌, map as each, is_some, IfOk, OnOk}, FinMap.{get, keys}};
 ghost use Rattle.tz_lookup.specs.Databases.{name_shown};
 ghost use Rattle.zone_tree.specs.Names.{archive_names, finds_in_table, others};
 

@@ -1,8 +1,7 @@
 //! The bytes that a run over a source is to write.
 ghost use Rattle.std.specs.Prelude.{◌≡◌, ◌≤◌, ◌++◌, ◌∷◌, [], length, take, IfOk};
 ghost use Rattle.zone_source.specs.Responses.{IsResponse};
-ghost use Rattle.zone_tree.specs.Causes.{cause, due_bytes, name_line};
-ghost use Rattle.zone_tree.specs.EverWrites.{IsEverResponse, IsFaultLine};
+ghost use Rattle.zone_tree.specs.{Causes.{cause, due_bytes, name_line}, EverWrites.{IsEverResponse, IsFaultLine}};
 
 use crate::refusal::{TreeFault, Why};
 use crate::whole::{tree, tree_for_ever};

@@ -1,9 +1,7 @@
 //! The program, its run, and the whole of it.
 ghost use Rattle.std.specs.Prelude.{◌≡◌, ℕ, List, Some, map, option_map, string_bytes};
 ghost use Rattle.zone_source.specs.Runs.{seen};
-ghost use Rattle.zone_tree.specs.Ends.{Ends};
-ghost use Rattle.zone_tree.specs.Starts.{StartsTree};
-ghost use Rattle.zone_tree.specs.Words.{asks_of, ever_file_in, file_asked, for_ever};
+ghost use Rattle.zone_tree.specs.{Ends.{Ends}, Starts.{StartsTree}, Words.{asks_of, ever_file_in, file_asked, for_ever}};
 
 use crate::no_input::NoInput;
 use crate::respond::{respond, respond_for_ever};
@@ -42,8 +40,7 @@ struct EverAnswers<'p> {
 }
 
 impl<'p> TextAnswers for EverAnswers<'p> {
-    ghost use Rattle.zone_tree.specs.EverWrites.{ever_writes};
-    ghost use Rattle.zone_tree.specs.WriteLaws.{ever_ends_well};
+    ghost use Rattle.zone_tree.specs.{EverWrites.{ever_writes}, WriteLaws.{ever_ends_well}};
 
     ghost writes = { λ _. ever_writes };
 

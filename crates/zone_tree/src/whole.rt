@@ -1,16 +1,10 @@
 //! The archive of a source.
-ghost use Rattle.std.specs.Prelude.{◌≡◌, ◌≤◌, length, map as each, Ok, Some, IfOk, IfErr, OnOk};
-ghost use Rattle.std.specs.FinMap.{keys};
-ghost use Rattle.std.specs.Option.{option_copied};
+ghost use Rattle.std.specs.{Prelude.{◌≡◌, ◌≤◌, length, map as each, Ok, Some, IfOk, IfErr, OnOk}, FinMap.{keys}, Option.{option_copied}};
 ghost use Rattle.tz_lookup.specs.Databases.{name_shown};
 ghost use Rattle.zone_table.specs.BoundedTables.{IsBoundedTable};
-ghost use Rattle.zone_tree.specs.Entries.{entry_of};
-ghost use Rattle.zone_tree.specs.Names.{finds_by_table, finds_in_table};
-ghost use Rattle.zone_tree.specs.EverTold.{IsEverFaultOf, IsFirstEver};
-ghost use Rattle.zone_tree.specs.EverTrees.{IsEverTree, OfTree};
-ghost use Rattle.zone_tree.specs.Told.{ArePut, IsFirst, IsFaultOf};
-ghost use Rattle.zone_tree.specs.Trees.{entries_of, first_entries, tree_by, tree_of};
+ghost use Rattle.zone_tree.specs.{Entries.{entry_of}, Names.{finds_by_table, finds_in_table}, EverTold.{IsEverFaultOf, IsFirstEver}, EverTrees.{IsEverTree, OfTree}, Told.{ArePut, IsFirst, IsFaultOf}, Trees.{entries_of, first_entries, tree_by, tree_of}};
 
+use crate::archive::put_end;
 use crate::entry::{VERSION_NAME, put_name, put_release};
 use crate::ever::EverFiles;
 use crate::files::{FilesTo2099, ZoneFiles};
@@ -18,7 +12,6 @@ use crate::names::{Names, archive_names};
 use crate::refusal::{NameFault, TreeFault};
 use basics::Text;
 use std::alloc::Global;
-use crate::archive::put_end;
 use zone_line::LineParser;
 use zone_source::{LIMIT, read_table, release_of};
 use zone_table::Table;

@@ -1,23 +1,13 @@
 -- Where a footer that was walked begins to give a set's totals for ever.
-use Rattle.std.proofs.Common.{◌≡◌, ℕ, zero, suc, ◌<◌, ◌≤◌, length, Some, None, ℤ, pos, ◌-ℤ◌, ◌≤ℤ◌, ◌<ℤ◌, true, false, cond, refl, sym, ◌∙◌, ⊎_elim, arith}
-use Rattle.std.proofs.lemmas.Int.{ints, by_lt_z}
-use Rattle.std.proofs.lemmas.Bool.{cases_lt}
+use Rattle.std.proofs.{Common.{◌≡◌, ℕ, zero, suc, ◌<◌, ◌≤◌, length, Some, None, ℤ, pos, ◌-ℤ◌, ◌≤ℤ◌, ◌<ℤ◌, true, false, cond, refl, sym, ◌∙◌, ⊎_elim, arith}, lemmas.Int.{ints, by_lt_z}, lemmas.Bool.{cases_lt}}
 use Rattle.basics.specs.ComparisonLaws.{le_le, lt_le}
 use Rattle.civil_base.specs.Ranges.{IsOffset}
 use Rattle.zone_spans.specs.Entries.{total}
 use Rattle.tz_tzif.specs.FooterForce.{FooterZone, fixed, yearly, held_at, is_footer_saving, standard_total}
-use Rattle.tz_zone.specs.Sets.{shifts_of}
-use Rattle.tz_zone.specs.SpanLaws.{total_from_cut}
-use Rattle.tz_zone.specs.Spans.{IsCut, TimesDontFall, total_from}
-use Rattle.tz_zone.specs.declared.set.FixedTimespanSet.{FixedTimespanSet}
-use Rattle.zone_tzif.specs.Agreement.{AgreesAlways, AgreesFirstFrom, AgreesForEver, AgreesNowhere, IsFlat, MayBegin, cycle_begin, cycle_end, footer_total, time_of_entry}
-use Rattle.zone_tzif.specs.Walked.{Agrees, AgreesAt, IsWalked}
-use Rattle.zone_tzif.specs.Tells.{Tells, TellsEntry}
-use Rattle.zone_tzif.specs.declared.agreeing.Agreement.{Agreement}
-use Rattle.zone_tzif.specs.declared.agreeing.Agreement.TheVariants.{Nowhere, From, Always}
-use Rattle.zone_tzif.proofs.TailEverLemmas.{Repeats, for_ever, until_end}
-use Rattle.zone_tzif.proofs.EarliestLemmas.{earlier}
-use Rattle.zone_tzif.proofs.StepLemmas.{none_before}
+use Rattle.tz_zone.specs.{Sets.{shifts_of}, SpanLaws.{total_from_cut}, Spans.{IsCut, TimesDontFall, total_from}, declared.set.FixedTimespanSet.{FixedTimespanSet}}
+use Rattle.zone_tzif.specs.{Agreement.{AgreesAlways, AgreesFirstFrom, AgreesForEver, AgreesNowhere, IsFlat, MayBegin, cycle_begin, cycle_end, footer_total, time_of_entry}, Walked.{Agrees, AgreesAt, IsWalked}, Tells.{Tells, TellsEntry}}
+use Rattle.zone_tzif.specs.declared.agreeing.Agreement.{Agreement, TheVariants.{Nowhere, From, Always}}
+use Rattle.zone_tzif.proofs.{TailEverLemmas.{Repeats, for_ever, until_end}, EarliestLemmas.{earlier}, StepLemmas.{none_before}}
 
 flat_total : (zone : FooterZone) → IsFlat zone → (s : ℤ) → footer_total zone s ≡ standard_total zone
 unfolding held_at

@@ -1,28 +1,13 @@
 -- From its last change on a set's zone has what its string gives, and before it what the set gives.
-use Rattle.std.proofs.Common.{◌≡◌, ℕ, zero, suc, ◌<◌, Bool, true, false, ◌&&◌, List, [], ◌∷◌, length, map, Option, Some, ℤ, ◌≤ℤ◌, ◌<ℤ◌, int_le, refl, sym, ap, ◌∙◌, subst, arith}
-use Rattle.std.specs.List.{list_all}
-use Rattle.std.proofs.lemmas.Bool.{and_parts}
+use Rattle.std.{proofs.Common.{◌≡◌, ℕ, zero, suc, ◌<◌, Bool, true, false, ◌&&◌, List, [], ◌∷◌, length, map, Option, Some, ℤ, ◌≤ℤ◌, ◌<ℤ◌, int_le, refl, sym, ap, ◌∙◌, subst, arith}, specs.List.{list_all}, proofs.lemmas.Bool.{and_parts}}
 use Rattle.basics.specs.ComparisonLaws.{le_from_pass}
 use Rattle.civil_base.specs.Instants.{seconds_of}
-use Rattle.zone_spans.specs.Entries.{Entry}
-use Rattle.zone_spans.specs.Schedules.{total_at as set_total_at}
-use Rattle.tz_zone.specs.Sets.{schedule_of, shift_of, shifts_of}
-use Rattle.tz_zone.specs.Spans.{shift_at}
-use Rattle.tz_zone.specs.declared.set.FixedTimespanSet.{FixedTimespanSet}
-use Rattle.tz_tzif.specs.FooterForce.{FooterZone, held_at, is_of_one_year}
-use Rattle.tz_tzif.specs.Spells.{SpellsFooter}
-use Rattle.tz_tzif.specs.Standing.{StandsFor, stands_for}
-use Rattle.tz_tzif.specs.Values.{FooterValue}
-use Rattle.tz_tzif.specs.InForce.{are_over, told_total_at}
-use Rattle.zone_tail.specs.Candidates.{IsAllowed}
-use Rattle.zone_tail.specs.Carried.{CarriesOn, IsCovered, IsFrom}
-use Rattle.zone_tail.specs.Tails.{IsTail, beginning, end_of_last_year, is_ending_early}
-use Rattle.zone_tzif_core.specs.Totals.{file_total_at}
-use Rattle.zone_tzif_core.specs.Zones.{KindValue, ZoneValue}
-use Rattle.zone_tzif.specs.Values.{change_by, value_by, value_of}
-use Rattle.zone_tzif.specs.declared.convert.Saves.TheVariants.{Above}
-use Rattle.zone_tzif.proofs.StringLemmas.{Both, both}
-use Rattle.zone_tzif.specs.Footers.{IsFooterText}
+use Rattle.zone_spans.specs.{Entries.{Entry}, Schedules.{total_at as set_total_at}}
+use Rattle.tz_zone.specs.{Sets.{schedule_of, shift_of, shifts_of}, Spans.{shift_at}, declared.set.FixedTimespanSet.{FixedTimespanSet}}
+use Rattle.tz_tzif.specs.{FooterForce.{FooterZone, held_at, is_of_one_year}, Spells.{SpellsFooter}, Standing.{StandsFor, stands_for}, Values.{FooterValue}, InForce.{are_over, told_total_at}}
+use Rattle.zone_tail.specs.{Candidates.{IsAllowed}, Carried.{CarriesOn, IsCovered, IsFrom}, Tails.{IsTail, beginning, end_of_last_year, is_ending_early}}
+use Rattle.zone_tzif_core.specs.{Totals.{file_total_at}, Zones.{KindValue, ZoneValue}}
+use Rattle.zone_tzif.{specs.Values.{change_by, value_by, value_of}, specs.declared.convert.Saves.TheVariants.{Above}, proofs.StringLemmas.{Both, both}, specs.Footers.{IsFooterText}}
 
 all_begun : (entries : List Entry) (s : ℤ) → list_all (λ (change : ℤ × KindValue). int_le change.0 s) (map (change_by Above) entries) ≡ true → (i : ℕ)
     → i < length (map shift_of entries) → (shift_at (map shift_of entries) i).0 ≤ℤ s

@@ -1,21 +1,12 @@
 -- Spans that are kept, each kind and each name once, and what refuses a file.
 use Rattle.std.proofs.Common.{◌≡◌, ◌≢◌, ℕ, zero, suc, ◌+◌, ◌-◌, ◌<◌, ◌≤◌, ℤ, pos, int_lt, Bool, true, false, cond, ◌&&◌, List, [], ◌∷◌, ◌++◌, length, drop, map, get_or, nat_le, Some, None, refl, sym, ap, ◌∙◌, arith, length-append, length-drop}
-use Rattle.std.specs.Prelude.{bytes_eq}
-use Rattle.std.specs.List.{list_all, list_any, slice_index_or}
-use Rattle.std.proofs.lemmas.Bool.Decides.{nat_tests}
-use Rattle.std.proofs.lemmas.Simd.{map-map}
-use Rattle.std.proofs.lemmas.List.{drop_more, drop_all, length-map}
+use Rattle.std.proofs.lemmas.{Bool.Decides.{nat_tests}, Simd.{map-map}, List.{drop_more, drop_all, length-map}}
+use Rattle.std.specs.{Prelude.{bytes_eq}, List.{list_all, list_any, slice_index_or}}
 use Rattle.zone_spans.specs.Entries.{Entry}
-use Rattle.tz_zone.specs.Sets.{shift_of, shifts_of}
-use Rattle.tz_zone.specs.Spans.{shift_at}
-use Rattle.tz_zone.specs.declared.set.FixedTimespanSet.{FixedTimespanSet}
-use Rattle.zone_tzif_core.specs.Tzif.{added, are_names, are_times, each_once, first_fault, is_same, kinds_of, name_bytes, names_of, write_fault}
-use Rattle.zone_tzif_core.specs.Zones.{KindValue, go_up, rises}
+use Rattle.tz_zone.specs.{Sets.{shift_of, shifts_of}, Spans.{shift_at}, declared.set.FixedTimespanSet.{FixedTimespanSet}}
+use Rattle.zone_tzif_core.specs.{Tzif.{added, are_names, are_times, each_once, first_fault, is_same, kinds_of, name_bytes, names_of, write_fault}, Zones.{KindValue, go_up, rises}}
 use Rattle.zone_tzif_core.specs.declared.values.WriteFault.TheVariants as write
-use Rattle.zone_tzif.specs.Causes.{kind_in, name_in, names_in}
-use Rattle.zone_tzif.specs.Values.{change_by, kind_by, value_by, value_of}
-use Rattle.zone_tzif.specs.declared.convert.Saves.{Saves}
-use Rattle.zone_tzif.specs.declared.convert.Saves.TheVariants.{Above}
+use Rattle.zone_tzif.specs.{Causes.{kind_in, name_in, names_in}, Values.{change_by, kind_by, value_by, value_of}, declared.convert.Saves.{Saves}, declared.convert.Saves.TheVariants.{Above}}
 
 -- ---- items that are kept once
 

@@ -2,22 +2,11 @@
 use Rattle.std.proofs.Common.{◌≡◌, ℕ, Bool, true, false, ◌||◌, cond, List, [], Option, Some, None, is_none, ℤ, ◌<ℤ◌, refl, sym, ap, ◌∙◌, subst}
 use Rattle.civil_base.specs.Instants.{seconds_of}
 use Rattle.zone_spans.specs.Schedules.{total_at as set_total_at}
-use Rattle.tz_zone.specs.Sets.{schedule_of}
-use Rattle.tz_zone.specs.declared.set.FixedTimespanSet.{FixedTimespanSet}
-use Rattle.tz_tzif.specs.FooterLaws.{no_text}
-use Rattle.tz_tzif.specs.FooterForce.{FooterZone, is_of_one_year}
-use Rattle.tz_tzif.specs.Standing.{StandsFor}
-use Rattle.tz_tzif.specs.Faults.{SaysInFooter}
-use Rattle.tz_tzif.specs.InForce.{are_over, told_total_at}
-use Rattle.zone_tail.specs.Carried.{CarriesOn}
-use Rattle.zone_tail.specs.Found.{found_from, found_text}
-use Rattle.zone_tail.specs.Tails.{IsTail, end_of_last_year, is_ending_early, is_outlasting, tail_fault}
-use Rattle.zone_tail.specs.declared.outcome.TailFault.{TailFault}
-use Rattle.zone_tzif_core.specs.Totals.{file_total_at}
-use Rattle.zone_tzif_core.specs.Zones.{ZoneValue}
-use Rattle.zone_tzif.specs.Files.{consistent_footer, consistent_zone, footer_of, is_contradicted, IsCarriedOn}
-use Rattle.zone_tzif.specs.Values.{value_by, value_of}
-use Rattle.zone_tzif.specs.Footers.{IsSaid}
+use Rattle.tz_zone.specs.{Sets.{schedule_of}, declared.set.FixedTimespanSet.{FixedTimespanSet}}
+use Rattle.tz_tzif.specs.{FooterLaws.{no_text}, FooterForce.{FooterZone, is_of_one_year}, Standing.{StandsFor}, Faults.{SaysInFooter}, InForce.{are_over, told_total_at}}
+use Rattle.zone_tail.specs.{Carried.{CarriesOn}, Found.{found_from, found_text}, Tails.{IsTail, end_of_last_year, is_ending_early, is_outlasting, tail_fault}, declared.outcome.TailFault.{TailFault}}
+use Rattle.zone_tzif_core.specs.{Totals.{file_total_at}, Zones.{ZoneValue}}
+use Rattle.zone_tzif.specs.{Files.{consistent_footer, consistent_zone, footer_of, is_contradicted, IsCarriedOn}, Values.{value_by, value_of}, Footers.{IsSaid}}
 
 -- by the laws on the totals of files
 module _ (alone : (zone : ZoneValue) (t : ℤ) → told_total_at zone None t ≡ file_total_at zone t)

@@ -1,19 +1,8 @@
 -- What a rule of each year puts in force repeats after 400 years.
-use Rattle.std.proofs.Common.{◌≡◌, ℕ, ℤ, pos, neg_ℤ, cond, ◌+◌, ◌-◌, ◌*◌, ◌<◌, ◌==◌, ◌+ℤ◌, ◌-ℤ◌, ◌≤ℤ◌, ◌<ℤ◌, int_le, int_lt, refl, sym, ap, ◌∙◌, arith, subst}
-use Rattle.std.specs.Prelude.{◌&&◌, ◌||◌}
-use Rattle.std.specs.Int.{int_div_euclid}
-use Rattle.std.proofs.lemmas.Int.{ints}
-use Rattle.basics.specs.ComparisonLaws.{lt_pass}
-use Rattle.basics.specs.DateLaws.{day_parts, day-range, year_of-day, year-between}
-use Rattle.basics.specs.Dates.{last_with, year_of, month_of, day_of}
-use Rattle.basics.specs.Days.{day, days_in_month, IsCountedYear, IsDate}
-use Rattle.basics.specs.SignedLaws.{signed}
-use Rattle.basics.specs.Weekdays.{weekday_of}
+use Rattle.std.{proofs.Common.{◌≡◌, ℕ, ℤ, pos, neg_ℤ, cond, ◌+◌, ◌-◌, ◌*◌, ◌<◌, ◌==◌, ◌+ℤ◌, ◌-ℤ◌, ◌≤ℤ◌, ◌<ℤ◌, int_le, int_lt, refl, sym, ap, ◌∙◌, arith, subst}, specs.Prelude.{◌&&◌, ◌||◌}, specs.Int.{int_div_euclid}, proofs.lemmas.Int.{ints}}
+use Rattle.basics.specs.{ComparisonLaws.{lt_pass}, DateLaws.{day_parts, day-range, year_of-day, year-between}, Dates.{last_with, year_of, month_of, day_of}, Days.{day, days_in_month, IsCountedYear, IsDate}, SignedLaws.{signed}, Weekdays.{weekday_of}}
 use Rattle.zone_spans.specs.Cycle.{days_on, next_cycle, seconds_on}
-use Rattle.tz_posix.specs.Days.{julian_day, nth_weekday, rule_day}
-use Rattle.tz_posix.specs.InForce.{YearlyTime, instant_in, is_saving, is_within, moments_in, posix_total, year_at}
-use Rattle.tz_posix.specs.PosixZones.{Given, GivesByRule, Named}
-use Rattle.tz_posix.specs.declared.date.Date.{Date}
+use Rattle.tz_posix.specs.{Days.{julian_day, nth_weekday, rule_day}, InForce.{YearlyTime, instant_in, is_saving, is_within, moments_in, posix_total, year_at}, PosixZones.{Given, GivesByRule, Named}, declared.date.Date.{Date}}
 use Rattle.tz_posix.specs.declared.date.Date.TheVariants.{J, N, M}
 use Rattle.tz_tzif.specs.FooterForce.{FooterZone, fixed, yearly, has_begun, held_at, is_footer_saving, is_saved, is_saved_by, standard_total, year_after, year_before}
 use Rattle.zone_tzif.specs.Years.{IsInYears}

@@ -1,6 +1,5 @@
 -- The day by which a local second is named, by its bounds.
-use Rattle.std.proofs.Common.{◌≡◌, ℤ, pos, neg_ℤ, ◌+ℤ◌, ◌-ℤ◌, ◌*ℤ◌, ◌≤ℤ◌, ◌<ℤ◌, w32, w64, to_z, of_z, arith}
-use Rattle.std.specs.Int.{int_div_euclid}
+use Rattle.std.{proofs.Common.{◌≡◌, ℤ, pos, neg_ℤ, ◌+ℤ◌, ◌-ℤ◌, ◌*ℤ◌, ◌≤ℤ◌, ◌<ℤ◌, w32, w64, to_z, of_z, arith}, specs.Int.{int_div_euclid}}
 use Rattle.basics.specs.SignedLaws.{signed, signed_casts, floored}
 
 pub near_day : (local d : ℤ) → d ≡ int_div_euclid local (pos 86400) → pos 4000000000 ≤ℤ local → local ≤ℤ pos 5000000000

@@ -1,17 +1,11 @@
 -- A footer that gives a set's totals for ever gives them from each entry from which another does.
-use Rattle.std.proofs.Common.{◌≡◌, ℕ, Some, ℤ, ◌≤ℤ◌, ◌<ℤ◌, sym, ap, ◌∙◌, arith}
-use Rattle.std.proofs.lemmas.Int.{ints, by_lt_z}
+use Rattle.std.proofs.{Common.{◌≡◌, ℕ, Some, ℤ, ◌≤ℤ◌, ◌<ℤ◌, sym, ap, ◌∙◌, arith}, lemmas.Int.{ints, by_lt_z}}
 use Rattle.basics.specs.ComparisonLaws.{le_le}
 use Rattle.civil_base.specs.Ranges.{IsOffset}
-use Rattle.zone_spans.specs.Cycle.{seconds_on}
-use Rattle.zone_spans.specs.Entries.{total}
+use Rattle.zone_spans.specs.{Cycle.{seconds_on}, Entries.{total}}
 use Rattle.tz_tzif.specs.FooterForce.{FooterZone, standard_total}
-use Rattle.tz_zone.specs.Sets.{shifts_of}
-use Rattle.tz_zone.specs.Spans.{total_from}
-use Rattle.tz_zone.specs.declared.set.FixedTimespanSet.{FixedTimespanSet}
-use Rattle.zone_tzif.specs.Agreement.{AgreesForEver, MayBegin, cycle_begin, cycle_end, footer_total, time_of_entry}
-use Rattle.zone_tzif.specs.Walked.{Agrees, AgreesAt}
-use Rattle.zone_tzif.proofs.TailEverLemmas.{Repeats, cycle_later, until_end}
+use Rattle.tz_zone.specs.{Sets.{shifts_of}, Spans.{total_from}, declared.set.FixedTimespanSet.{FixedTimespanSet}}
+use Rattle.zone_tzif.{specs.Agreement.{AgreesForEver, MayBegin, cycle_begin, cycle_end, footer_total, time_of_entry}, specs.Walked.{Agrees, AgreesAt}, proofs.TailEverLemmas.{Repeats, cycle_later, until_end}}
 
 module _ (repeats : Repeats) (zone other : FooterZone) (offset : IsOffset (standard_total zone)) (other_offset : IsOffset (standard_total other))
     (set : FixedTimespanSet) (second : ℤ) (last : second ≤ℤ cycle_begin) (here : Agrees zone set (Some second))

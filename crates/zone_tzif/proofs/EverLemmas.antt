@@ -1,43 +1,17 @@
 -- The file of a zone for ever shows what the zone does.
-use Rattle.std.proofs.Common.{◌≡◌, ℕ, zero, suc, ◌<◌, Bool, true, false, cond, ◌&&◌, List, [], ◌∷◌, length, map, filter, Option, Some, None, Result, Ok, Err, IfOk, ℤ, pos, ◌*ℤ◌, ◌≤ℤ◌, ◌<ℤ◌, int_le, refl, sym, ap, subst, ◌∙◌, arith}
-use Rattle.std.specs.List.{list_all}
-use Rattle.std.specs.Prelude.{MatchResult}
-use Rattle.std.proofs.lemmas.Bool.{and_parts}
+use Rattle.std.proofs.{Common.{◌≡◌, ℕ, zero, suc, ◌<◌, Bool, true, false, cond, ◌&&◌, List, [], ◌∷◌, length, map, filter, Option, Some, None, Result, Ok, Err, IfOk, ℤ, pos, ◌*ℤ◌, ◌≤ℤ◌, ◌<ℤ◌, int_le, refl, sym, ap, subst, ◌∙◌, arith}, lemmas.Bool.{and_parts}}
 use Rattle.std.proofs.lemmas.Int.{ints}
+use Rattle.std.specs.{List.{list_all}, Prelude.{MatchResult}}
 use Rattle.basics.specs.ComparisonLaws.{le_pass, le_fail, le_from_pass, le_from_fail, lt_pass}
 use Rattle.civil_base.specs.Instants.{seconds_of}
-use Rattle.zone_spans.specs.Entries.{Entry, total}
-use Rattle.zone_spans.specs.Schedules.{last_total, total_at}
-use Rattle.tz_ever.specs.Ever.{ever_total}
-use Rattle.tz_ever.specs.Seam.{next_seam}
-use Rattle.tz_ever.specs.SeamLaws.{back_is}
-use Rattle.tz_tzif.specs.FooterLaws.{no_text}
-use Rattle.tz_tzif.specs.FooterForce.{FooterZone, held_at}
-use Rattle.tz_tzif.specs.Spells.{SpellsFooter}
-use Rattle.tz_tzif.specs.Standing.{stands_for}
-use Rattle.tz_tzif.specs.Values.{FooterValue}
-use Rattle.tz_tzif.specs.Faults.{SaysInFooter}
-use Rattle.tz_tzif.specs.InForce.{are_over, told_total_at}
-use Rattle.tz_zone.specs.SecondLaws.{same_test}
-use Rattle.tz_zone.specs.Sets.{schedule_of, shift_of, shifts_of}
-use Rattle.tz_zone.specs.Spans.{Shift, shift_at}
-use Rattle.tz_zone.specs.declared.set.FixedTimespanSet.{FixedTimespanSet}
-use Rattle.zone_tzif.specs.Agreement.{IsCovered, cycle_begin}
-use Rattle.zone_tzif.specs.Tails.{IsTailForEver, beginning_of}
-use Rattle.zone_tzif.specs.Tells.{Tells}
-use Rattle.zone_tzif_core.specs.Denotes.{Denotes}
-use Rattle.zone_tzif_core.specs.Format.{is_one_line}
-use Rattle.zone_tzif_core.specs.Totals.{file_total_at}
-use Rattle.zone_tzif_core.specs.Tzif.{IsTzifBy, write_fault}
-use Rattle.zone_tzif_core.specs.Zones.{KindValue, ZoneValue}
-use Rattle.zone_tzif_core.specs.declared.values.Version.{Version}
-use Rattle.zone_tzif.specs.EverFiles.{entries_until, ever_zone, until, version_for, IsEverFile, IsInReach, IsNoEverFile}
-use Rattle.zone_tzif.specs.Files.{IsFileFault}
-use Rattle.zone_tzif.specs.Values.{change_by, value_by}
-use Rattle.zone_tzif.specs.declared.convert.Saves.TheVariants.{Any}
-use Rattle.zone_tzif.specs.declared.file.FileFault.{FileFault}
-use Rattle.zone_tzif.proofs.LineLemmas.{tried_clean}
-use Rattle.zone_tzif.proofs.TotalLemmas.{totals_kept}
+use Rattle.zone_spans.specs.{Entries.{Entry, total}, Schedules.{last_total, total_at}}
+use Rattle.tz_ever.specs.{Ever.{ever_total}, Seam.{next_seam}, SeamLaws.{back_is}}
+use Rattle.tz_tzif.specs.{FooterLaws.{no_text}, FooterForce.{FooterZone, held_at}, Spells.{SpellsFooter}, Standing.{stands_for}, Values.{FooterValue}, Faults.{SaysInFooter}, InForce.{are_over, told_total_at}}
+use Rattle.tz_zone.specs.{SecondLaws.{same_test}, Sets.{schedule_of, shift_of, shifts_of}, Spans.{Shift, shift_at}, declared.set.FixedTimespanSet.{FixedTimespanSet}}
+use Rattle.zone_tzif.specs.{Agreement.{IsCovered, cycle_begin}, Tails.{IsTailForEver, beginning_of}, Tells.{Tells}, EverFiles.{entries_until, ever_zone, until, version_for, IsEverFile, IsInReach, IsNoEverFile}, Files.{IsFileFault}}
+use Rattle.zone_tzif.specs.{Values.{change_by, value_by}, declared.convert.Saves.TheVariants.{Any}, declared.file.FileFault.{FileFault}}
+use Rattle.zone_tzif.proofs.{LineLemmas.{tried_clean}, TotalLemmas.{totals_kept}}
+use Rattle.zone_tzif_core.specs.{Denotes.{Denotes}, Format.{is_one_line}, Totals.{file_total_at}, Tzif.{IsTzifBy, write_fault}, Zones.{KindValue, ZoneValue}, declared.values.Version.{Version}}
 
 abbrev up_to : ℤ → List Entry → List Entry
 up_to second es = filter (λ (e : Entry). int_le e.0 second) es

@@ -1,25 +1,15 @@
 -- A set's file is refused neither for an offset nor for the footer.
-use Rattle.std.proofs.Common.{◌≡◌, ◌≢◌, ℕ, ℤ, pos, negsuc, Bool, true, false, cond, nat_le, length, List, [], ◌∷◌, ◌++◌, map, Some, None, refl, ◌∙◌, arith}
-use Rattle.std.proofs.lemmas.Bool.{and_from, and_parts}
-use Rattle.std.proofs.lemmas.Bool.Decides.{nat_tests}
+use Rattle.std.proofs.{Common.{◌≡◌, ◌≢◌, ℕ, ℤ, pos, negsuc, Bool, true, false, cond, nat_le, length, List, [], ◌∷◌, ◌++◌, map, Some, None, refl, ◌∙◌, arith}, lemmas.Bool.{and_from, and_parts}, lemmas.Bool.Decides.{nat_tests}}
 use Rattle.std.proofs.lemmas.List.Folds.{list_all-append}
 use Rattle.std.specs.List.{list_all, list_any}
 use Rattle.civil_base.specs.Ranges.{is_offset}
 use Rattle.zone_spans.specs.Entries.{Entry, total}
-use Rattle.tz_zone.specs.Sets.{IsAccepted, schedule_of, shift_of}
-use Rattle.tz_zone.specs.declared.set.FixedTimespanSet.{FixedTimespanSet}
-use Rattle.zone_tail.specs.Found.{found_text}
-use Rattle.zone_tail.specs.Tails.{tail_fault}
-use Rattle.zone_tzif_core.specs.Format.{is_one_line}
-use Rattle.zone_tzif_core.specs.Tzif.{added, are_names, are_times, each_once, first_fault, is_same, kinds_of, names_of, write_fault}
-use Rattle.zone_tzif_core.specs.Zones.{KindValue, ZoneValue, is_small}
+use Rattle.tz_zone.specs.{Sets.{IsAccepted, schedule_of, shift_of}, declared.set.FixedTimespanSet.{FixedTimespanSet}}
+use Rattle.zone_tail.specs.{Found.{found_text}, Tails.{tail_fault}}
+use Rattle.zone_tzif_core.specs.{Format.{is_one_line}, Tzif.{added, are_names, are_times, each_once, first_fault, is_same, kinds_of, names_of, write_fault}, Zones.{KindValue, ZoneValue, is_small}}
 use Rattle.zone_tzif_core.specs.declared.values.WriteFault.TheVariants as write
-use Rattle.zone_tzif.specs.Files.{consistent_footer, consistent_zone, file_fault, footer_of}
-use Rattle.zone_tzif.specs.Values.{change_by, kind_by, value_by}
-use Rattle.zone_tzif.specs.declared.convert.Saves.{Saves}
-use Rattle.zone_tzif.specs.declared.convert.Saves.TheVariants.{Above}
-use Rattle.zone_tzif.proofs.FooterLemmas.{consistent_clean, footer_clean}
-use Rattle.zone_tzif.proofs.TotalLemmas.{entries_small}
+use Rattle.zone_tzif.specs.{Files.{consistent_footer, consistent_zone, file_fault, footer_of}, Values.{change_by, kind_by, value_by}, declared.convert.Saves.{Saves}, declared.convert.Saves.TheVariants.{Above}}
+use Rattle.zone_tzif.proofs.{FooterLemmas.{consistent_clean, footer_clean}, TotalLemmas.{entries_small}}
 
 -- what holds of all holds of each once
 all_once : {A : Type 0} (test : A → Bool) (same : A → A → Bool) (items rest : List A) → list_all test items ≡ true → list_all test rest ≡ true

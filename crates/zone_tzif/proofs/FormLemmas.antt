@@ -1,21 +1,11 @@
 -- The entries of a set by their numbers.
-use Rattle.std.proofs.Common.{◌≡◌, ℕ, zero, suc, ◌+◌, ◌==◌, ◌<◌, ◌≤◌, List, [], ◌∷◌, length, Some, None, Bool, true, false, cond, ℤ, pos, ◌≤ℤ◌, ◌<ℤ◌, refl, sym, ap, ◌∙◌, subst, arith}
+use Rattle.std.proofs.{Common.{◌≡◌, ℕ, zero, suc, ◌+◌, ◌==◌, ◌<◌, ◌≤◌, List, [], ◌∷◌, length, Some, None, Bool, true, false, cond, ℤ, pos, ◌≤ℤ◌, ◌<ℤ◌, refl, sym, ap, ◌∙◌, subst, arith}, lemmas.Bool.Decides.{nat_tests}, lemmas.List.{get_or-map}}
 use Rattle.std.specs.Prelude.{◌&&◌}
-use Rattle.std.proofs.lemmas.Bool.Decides.{nat_tests}
-use Rattle.std.proofs.lemmas.List.{get_or-map}
 use Rattle.basics.specs.ComparisonLaws.{le_fail, le_pass}
-use Rattle.zone_spans.specs.Entries.{Entry, total}
-use Rattle.zone_spans.specs.declared.span.FixedTimespan.{FixedTimespan}
-use Rattle.tz_zone.specs.Sets.{shift_of, shifts_of, span_in, total_of_span}
-use Rattle.tz_zone.specs.Spans.{Shift, shift_at}
-use Rattle.tz_zone.specs.declared.set.FixedTimespanSet.{FixedTimespanSet}
-use Rattle.zone_tail.specs.LastYear.{Form, steady, yearly, other}
-use Rattle.zone_tail.specs.Shapes.{entry_in}
-use Rattle.zone_tail.specs.Tails.{can_be_written, is_name}
-use Rattle.zone_tzif.specs.Agreement.{cycle_begin}
-use Rattle.zone_tzif.specs.Tails.{IsFaultForEver}
-use Rattle.zone_tzif.specs.Tried.{ever_fault, ever_form, first_from, form_fault, form_of_two, named_or, next_year, written_or}
-use Rattle.zone_tzif.specs.declared.outcome.EverTailFault.{EverTailFault}
+use Rattle.zone_spans.specs.{Entries.{Entry, total}, declared.span.FixedTimespan.{FixedTimespan}}
+use Rattle.tz_zone.specs.{Sets.{shift_of, shifts_of, span_in, total_of_span}, Spans.{Shift, shift_at}, declared.set.FixedTimespanSet.{FixedTimespanSet}}
+use Rattle.zone_tail.specs.{LastYear.{Form, steady, yearly, other}, Shapes.{entry_in}, Tails.{can_be_written, is_name}}
+use Rattle.zone_tzif.specs.{Agreement.{cycle_begin}, Tails.{IsFaultForEver}, Tried.{ever_fault, ever_form, first_from, form_fault, form_of_two, named_or, next_year, written_or}, declared.outcome.EverTailFault.{EverTailFault}}
 use Rattle.zone_tzif.specs.declared.outcome.EverTailFault.TheVariants.{Shape, OffsetRange, Name, NoRule, NoMemory}
 
 some_is : {X : Type 0} (a b : X) → Some a ≡ Some b → a ≡ b

@@ -1,19 +1,11 @@
 -- The entries of a set by their places.
-use Rattle.std.proofs.Common.{◌≡◌, ◌+◌, ◌<◌, ℕ, zero, suc, ℤ, pos, true, List, [], ◌∷◌, ◌++◌, length, map, drop, refl, sym, ap, ◌∙◌, append_assoc, arith}
-use Rattle.std.specs.Prelude.{Option, Some, None}
-use Rattle.std.specs.List.{list_all, slice_get, slice_index_or}
-use Rattle.std.proofs.lemmas.Bool.{and_parts}
-use Rattle.std.proofs.lemmas.List.{map-append}
-use Rattle.std.proofs.lemmas.Option.{none-some}
+use Rattle.std.proofs.{Common.{◌≡◌, ◌+◌, ◌<◌, ℕ, zero, suc, ℤ, pos, true, List, [], ◌∷◌, ◌++◌, length, map, drop, refl, sym, ap, ◌∙◌, append_assoc, arith}, lemmas.Bool.{and_parts}, lemmas.List.{map-append}, lemmas.Option.{none-some}}
+use Rattle.std.specs.{Prelude.{Option, Some, None}, List.{list_all, slice_get, slice_index_or}}
 use Rattle.civil_base.specs.Ranges.{is_offset}
 use Rattle.zone_spans.specs.Entries.{Entry, total}
-use Rattle.tz_zone.specs.Sets.{schedule_of, shift_of, shifts_of, span_in, IsAccepted}
-use Rattle.tz_zone.specs.Spans.{shift_at}
-use Rattle.tz_zone.specs.declared.set.FixedTimespanSet.{FixedTimespanSet}
+use Rattle.tz_zone.specs.{Sets.{schedule_of, shift_of, shifts_of, span_in, IsAccepted}, Spans.{shift_at}, declared.set.FixedTimespanSet.{FixedTimespanSet}}
 use Rattle.zone_tzif_core.specs.Zones.{KindValue}
-use Rattle.zone_tzif.specs.Values.{change_by, kind_by}
-use Rattle.zone_tzif.specs.declared.convert.Saves.{Saves}
-use Rattle.zone_tzif.proofs.TotalLemmas.{entries_small}
+use Rattle.zone_tzif.{specs.Values.{change_by, kind_by}, specs.declared.convert.Saves.{Saves}, proofs.TotalLemmas.{entries_small}}
 
 small_at : (entries : List Entry) (i : ℕ) (default : Entry) → is_offset (total default.1) ≡ true
     → list_all (λ (entry : Entry). is_offset (total entry.1)) entries ≡ true → is_offset (total (slice_index_or entries i default).1) ≡ true

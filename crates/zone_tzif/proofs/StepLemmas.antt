@@ -1,17 +1,11 @@
 -- Agreement from an entry on, entry by entry.
-use Rattle.std.proofs.Common.{◌≡◌, ◌↔◌, ℕ, zero, suc, ◌-◌, ◌<◌, ◌≤◌, List, [], ◌∷◌, length, map, ℤ, ◌≤ℤ◌, ◌<ℤ◌, refl, sym, ap, ◌∙◌, subst, ⊎_elim, arith}
-use Rattle.std.proofs.lemmas.Int.{ints, by_lt_z}
-use Rattle.std.proofs.lemmas.Bool.{cases_lt}
+use Rattle.std.proofs.{Common.{◌≡◌, ◌↔◌, ℕ, zero, suc, ◌-◌, ◌<◌, ◌≤◌, List, [], ◌∷◌, length, map, ℤ, ◌≤ℤ◌, ◌<ℤ◌, refl, sym, ap, ◌∙◌, subst, ⊎_elim, arith}, lemmas.Int.{ints, by_lt_z}, lemmas.Bool.{cases_lt}}
 use Rattle.basics.specs.ComparisonLaws.{le_le, lt_le}
 use Rattle.zone_spans.specs.Entries.{Entry, total}
 use Rattle.tz_tzif.specs.FooterForce.{FooterZone}
 use Rattle.tz_lookup.specs.YearSeconds.{rules_begin}
-use Rattle.tz_zone.specs.Sets.{shift_of, shifts_of, total_of_span}
-use Rattle.tz_zone.specs.SpanLaws.{total_from_cut}
-use Rattle.tz_zone.specs.Spans.{IsCut, TimesDontFall, total_from}
-use Rattle.tz_zone.specs.declared.set.FixedTimespanSet.{FixedTimespanSet}
-use Rattle.zone_tzif.specs.Agreement.{cycle_end, footer_total, time_of_entry}
-use Rattle.zone_tzif.specs.Walked.{AgreesAt, IsWalked, Lasts}
+use Rattle.tz_zone.specs.{Sets.{shift_of, shifts_of, total_of_span}, SpanLaws.{total_from_cut}, Spans.{IsCut, TimesDontFall, total_from}, declared.set.FixedTimespanSet.{FixedTimespanSet}}
+use Rattle.zone_tzif.specs.{Agreement.{cycle_end, footer_total, time_of_entry}, Walked.{AgreesAt, IsWalked, Lasts}}
 
 pub length-shifts : (entries : List Entry) → length (map shift_of entries) ≡ length entries
 length-shifts [] = refl

@@ -1,32 +1,16 @@
 -- A string in its ranges that stands for a zone by itself is a footer, and gives the same totals.
-use Rattle.std.proofs.Common.{◌≡◌, ℕ, ◌≤◌, Bool, true, false, cond, not, ◌&&◌, List, [], ◌∷◌, Option, Some, None, option_map, option_and_then, Result, Ok, Err, ℤ, pos, ◌+ℤ◌, ◌++◌, subst, refl, sym, ap, ◌∙◌, arith, nat_le}
-use Rattle.std.proofs.lemmas.Bool.{and_parts, and_from}
-use Rattle.std.proofs.lemmas.Bool.Decides.{nat_tests}
-use Rattle.std.proofs.lemmas.Int.{ints}
-use Rattle.civil_base.specs.Instants.{seconds_of}
-use Rattle.tz_posix.specs.InForce.{instant_in, is_saving, moment_of, moments_in, posix_total, year_at, is_within, yearly_time}
-use Rattle.tz_posix.specs.PosixZones.{PosixZone, fixed, ruled, GivesTotal, Named, either}
-use Rattle.tz_posix.specs.RangeLaws.{none_first}
-use Rattle.tz_posix.specs.Ranges.{posix_range, date_miss, first_miss, first_some, offset_miss, time_miss, rule_range, rule_time_miss, is_time}
-use Rattle.tz_posix.specs.Resolved.{resolved}
-use Rattle.tz_posix.specs.Seconds.{offset_seconds, east_of, part}
-use Rattle.tz_posix.specs.Spells.{Optional, absent, present, SpellsName, SpellsOffset, SpellsMoment, date, timed, bare, SpellsRule, rule}
-use Rattle.tz_posix.specs.Spells.{dst, Spells, short_form, full_form, day_times, signed_times}
-use Rattle.tz_posix.specs.Values.{TzValue}
-use Rattle.tz_posix.specs.declared.date.Date.{Date}
+use Rattle.std.proofs.{Common.{◌≡◌, ℕ, ◌≤◌, Bool, true, false, cond, not, ◌&&◌, List, [], ◌∷◌, Option, Some, None, option_map, option_and_then, Result, Ok, Err, ℤ, pos, ◌+ℤ◌, ◌++◌, subst, refl, sym, ap, ◌∙◌, arith, nat_le}, lemmas.Bool.{and_parts, and_from}}
+use Rattle.std.proofs.lemmas.{Bool.Decides.{nat_tests}, Int.{ints}}
 use Rattle.std.specs.Option.{option_map_or}
-use Rattle.zone_tzif_core.specs.Zones.{KindValue}
-use Rattle.tz_posix.specs.declared.error.RangeError.{RangeError}
+use Rattle.civil_base.specs.Instants.{seconds_of}
+use Rattle.tz_posix.specs.{InForce.{instant_in, is_saving, moment_of, moments_in, posix_total, year_at, is_within, yearly_time}, PosixZones.{PosixZone, fixed, ruled, GivesTotal, Named, either}, RangeLaws.{none_first}}
+use Rattle.tz_posix.specs.{Ranges.{posix_range, date_miss, first_miss, first_some, offset_miss, time_miss, rule_range, rule_time_miss, is_time}, Resolved.{resolved}, Seconds.{offset_seconds, east_of, part}}
+use Rattle.tz_posix.specs.{Spells.{Optional, absent, present, SpellsName, SpellsOffset, SpellsMoment, date, timed, bare, SpellsRule, rule}, Spells.{dst, Spells, short_form, full_form, day_times, signed_times}, Values.{TzValue}, declared.date.Date.{Date}}
+use Rattle.tz_posix.specs.declared.{error.RangeError.{RangeError}, time.Offset.{Offset}, time.Time.{Time}, values.Rule.{Rule}}
 use Rattle.tz_posix.specs.declared.error.RangeError.TheVariants as miss
-use Rattle.tz_posix.specs.declared.time.Offset.{Offset}
-use Rattle.tz_posix.specs.declared.time.Time.{Time}
-use Rattle.tz_posix.specs.declared.values.Rule.{Rule}
+use Rattle.zone_tzif_core.specs.Zones.{KindValue}
 use Rattle.tz_zone.specs.declared.set.FixedTimespanSet.{FixedTimespanSet}
-use Rattle.tz_tzif.specs.FooterForce.{held_at, yearly, is_footer_saving, is_of_one_year, is_saved, is_saved_by, has_begun}
-use Rattle.tz_tzif.specs.FooterForce.{year_after, year_before}
-use Rattle.tz_tzif.specs.Ranges.{IsFooterOf}
-use Rattle.tz_tzif.specs.Standing.{stands_for}
-use Rattle.tz_tzif.specs.Values.{FooterValue}
+use Rattle.tz_tzif.specs.{FooterForce.{held_at, yearly, is_footer_saving, is_of_one_year, is_saved, is_saved_by, has_begun}, FooterForce.{year_after, year_before}, Ranges.{IsFooterOf}, Standing.{stands_for}, Values.{FooterValue}}
 use Rattle.zone_tail.specs.Settled.{IsOfLastYear, IsSettled}
 
 -- a time without a sign

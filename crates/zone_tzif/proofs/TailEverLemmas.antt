@@ -1,26 +1,13 @@
 -- A footer that gives a set's totals up to the end of the cycle gives them for ever.
-use Rattle.std.proofs.Common.{◌≡◌, ℕ, zero, suc, ◌+◌, ◌*◌, ◌<◌, ◌≤◌, Option, ℤ, pos, neg_ℤ, ◌+ℤ◌, ◌-ℤ◌, ◌*ℤ◌, ◌≤ℤ◌, ◌<ℤ◌, refl, sym, ap, ◌∙◌, subst, arith}
-use Rattle.std.proofs.lemmas.Int.{ints}
-use Rattle.basics.specs.Days.{day, is_leap, days_in_year, days_in_month, days_after_zero, year_start, days_through, days_into_year}
-use Rattle.basics.specs.ComparisonLaws.{lt_pass}
-use Rattle.basics.specs.SignedLaws.{signed}
-use Rattle.civil_base.specs.Instants.{seconds_of}
-use Rattle.civil_base.specs.RangeLaws.{offset_greatest, offset_least}
-use Rattle.civil_base.specs.Ranges.{IsOffset}
-use Rattle.zone_spans.specs.Cycle.{seconds_on}
-use Rattle.zone_spans.specs.Entries.{total}
-use Rattle.tz_ever.specs.Ever.{ever_total}
-use Rattle.tz_ever.specs.Seam.{brought_back, cycles_past, next_seam}
-use Rattle.tz_ever.specs.SeamLaws.{ArePast, back_by, back_is, cycles_past-are}
+use Rattle.std.proofs.{Common.{◌≡◌, ℕ, zero, suc, ◌+◌, ◌*◌, ◌<◌, ◌≤◌, Option, ℤ, pos, neg_ℤ, ◌+ℤ◌, ◌-ℤ◌, ◌*ℤ◌, ◌≤ℤ◌, ◌<ℤ◌, refl, sym, ap, ◌∙◌, subst, arith}, lemmas.Int.{ints}}
+use Rattle.basics.specs.{Days.{day, is_leap, days_in_year, days_in_month, days_after_zero, year_start, days_through, days_into_year}, ComparisonLaws.{lt_pass}, SignedLaws.{signed}}
+use Rattle.civil_base.specs.{Instants.{seconds_of}, RangeLaws.{offset_greatest, offset_least}, Ranges.{IsOffset}}
+use Rattle.zone_spans.specs.{Cycle.{seconds_on}, Entries.{total}}
+use Rattle.tz_ever.specs.{Ever.{ever_total}, Seam.{brought_back, cycles_past, next_seam}, SeamLaws.{ArePast, back_by, back_is, cycles_past-are}}
 use Rattle.tz_tzif.specs.FooterForce.{FooterZone, held_at, standard_total}
-use Rattle.tz_zone.specs.SecondLaws.{IsSecond, one_second, second_is, total_is}
-use Rattle.tz_zone.specs.Sets.{schedule_of, shifts_of}
-use Rattle.tz_zone.specs.Spans.{total_from}
-use Rattle.tz_zone.specs.declared.set.FixedTimespanSet.{FixedTimespanSet}
+use Rattle.tz_zone.specs.{SecondLaws.{IsSecond, one_second, second_is, total_is}, Sets.{schedule_of, shifts_of}, Spans.{total_from}, declared.set.FixedTimespanSet.{FixedTimespanSet}}
 use Rattle.zone_tail.specs.Carried.{IsFrom}
-use Rattle.zone_tzif.specs.Agreement.{AgreesForEver, IsCovered, cycle_begin, cycle_end, footer_total}
-use Rattle.zone_tzif.specs.Walked.{Agrees}
-use Rattle.zone_tzif.specs.Years.{IsInYears}
+use Rattle.zone_tzif.specs.{Agreement.{AgreesForEver, IsCovered, cycle_begin, cycle_end, footer_total}, Walked.{Agrees}, Years.{IsInYears}}
 
 -- the law of footers
 abbrev pub Repeats : Type 0

@@ -1,15 +1,8 @@
 -- What a text says as a footer.
 use Rattle.std.proofs.Common.{◌≡◌, ℕ, List, sym, ap, ◌∙◌, subst}
-use Rattle.tz_tzif.specs.FooterForce.{FooterZone}
-use Rattle.tz_tzif.specs.Ranges.{IsFooterOf}
-use Rattle.tz_tzif.specs.Spells.{SpellsFooter}
-use Rattle.tz_tzif.specs.Standing.{StandsFor, stands_for}
-use Rattle.tz_tzif.specs.Values.{FooterValue}
+use Rattle.tz_tzif.specs.{FooterForce.{FooterZone}, Ranges.{IsFooterOf}, Spells.{SpellsFooter}, Standing.{StandsFor, stands_for}, Values.{FooterValue}}
 use Rattle.tz_zone.specs.declared.set.FixedTimespanSet.{FixedTimespanSet}
-use Rattle.zone_tzif.specs.Tails.{CarriesNothing, TextTells}
-use Rattle.zone_tzif.specs.Tells.{Tells}
-use Rattle.zone_tzif.specs.declared.agreeing.Agreement.{Agreement}
-use Rattle.zone_tzif.specs.declared.agreeing.Agreement.TheVariants.{Nowhere, From, Always}
+use Rattle.zone_tzif.specs.{Tails.{CarriesNothing, TextTells}, Tells.{Tells}, declared.agreeing.Agreement.{Agreement}, declared.agreeing.Agreement.TheVariants.{Nowhere, From, Always}}
 
 -- a text stands for one footer at most
 module _ (one : (text : List ℕ) (x y : FooterValue) → SpellsFooter text x → SpellsFooter text y → x ≡ y) (set : FixedTimespanSet) (text : List ℕ)

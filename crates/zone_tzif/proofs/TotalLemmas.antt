@@ -1,17 +1,10 @@
 -- The zone of a set has the set's offsets.
-use Rattle.std.proofs.Common.{◌≡◌, ℕ, ℤ, pos, ◌*ℤ◌, int_le, Bool, true, false, cond, List, [], ◌∷◌, map, filter, refl, ap, ◌∙◌}
-use Rattle.std.proofs.lemmas.Bool.{and_parts}
-use Rattle.std.specs.List.{list_all}
+use Rattle.std.{proofs.Common.{◌≡◌, ℕ, ℤ, pos, ◌*ℤ◌, int_le, Bool, true, false, cond, List, [], ◌∷◌, map, filter, refl, ap, ◌∙◌}, proofs.lemmas.Bool.{and_parts}, specs.List.{list_all}}
 use Rattle.civil_base.specs.Ranges.{is_offset}
-use Rattle.zone_spans.specs.Entries.{Entry, total}
-use Rattle.zone_spans.specs.Schedules.{total_at as set_total_at, last_total}
-use Rattle.zone_spans.specs.declared.span.FixedTimespan.{FixedTimespan}
-use Rattle.tz_zone.specs.Sets.{schedule_of, shift_of}
-use Rattle.tz_zone.specs.declared.set.FixedTimespanSet.{FixedTimespanSet}
-use Rattle.zone_tzif_core.specs.Totals.{file_total_at, last_kind}
-use Rattle.zone_tzif_core.specs.Zones.{KindValue, ZoneValue}
-use Rattle.zone_tzif.specs.Values.{kind_by, change_by, value_by}
-use Rattle.zone_tzif.specs.declared.convert.Saves.{Saves}
+use Rattle.zone_spans.specs.{Entries.{Entry, total}, Schedules.{total_at as set_total_at, last_total}, declared.span.FixedTimespan.{FixedTimespan}}
+use Rattle.tz_zone.specs.{Sets.{schedule_of, shift_of}, declared.set.FixedTimespanSet.{FixedTimespanSet}}
+use Rattle.zone_tzif_core.specs.{Totals.{file_total_at, last_kind}, Zones.{KindValue, ZoneValue}}
+use Rattle.zone_tzif.specs.{Values.{kind_by, change_by, value_by}, declared.convert.Saves.{Saves}}
 
 abbrev pub made : KindValue → List (ℤ × KindValue) → List ℕ → ZoneValue
 made first rest footer = record { first = first; rest = rest; footer = footer }

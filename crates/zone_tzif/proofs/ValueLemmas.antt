@@ -1,21 +1,10 @@
 -- The texts of a set's zone are UTF-8, and its times have 64 bits.
-use Rattle.std.proofs.Common.{◌≡◌, ℕ, ◌<◌, ℤ, pos, List, length, map, get_or, FitsSigned, sym, ap, subst, arith}
-use Rattle.std.proofs.lemmas.Int.{ints}
-use Rattle.std.proofs.lemmas.List.{get_or-map, length-map}
-use Rattle.std.proofs.lemmas.List.Elements.{All-get_or}
-use Rattle.std.proofs.lemmas.Str.{IsUtf8-string_bytes}
-use Rattle.std.specs.Int.{w64}
-use Rattle.std.specs.Str.{IsUtf8}
+use Rattle.std.proofs.{Common.{◌≡◌, ℕ, ◌<◌, ℤ, pos, List, length, map, get_or, FitsSigned, sym, ap, subst, arith}, lemmas.Int.{ints}, lemmas.List.{get_or-map, length-map}, lemmas.List.Elements.{All-get_or}, lemmas.Str.{IsUtf8-string_bytes}}
+use Rattle.std.specs.{Int.{w64}, Str.{IsUtf8}}
 use Rattle.zone_spans.specs.Entries.{Entry}
-use Rattle.tz_zone.specs.Sets.{shift_of, shifts_of, IsSpanTime, AreSpanTimes}
-use Rattle.tz_zone.specs.Spans.{Shift}
-use Rattle.tz_zone.specs.declared.set.FixedTimespanSet.{FixedTimespanSet}
-use Rattle.zone_tzif_core.specs.Shown.{shift_shown, shifts_shown, zone_shown}
-use Rattle.zone_tzif_core.specs.Tzif.{IsValue}
-use Rattle.zone_tzif_core.specs.Zones.{KindValue}
-use Rattle.zone_tzif_core.specs.declared.values.TzifZone.{TzifZone}
-use Rattle.zone_tzif.specs.Values.{change_by, value_by}
-use Rattle.zone_tzif.specs.declared.convert.Saves.{Saves}
+use Rattle.tz_zone.specs.{Sets.{shift_of, shifts_of, IsSpanTime, AreSpanTimes}, Spans.{Shift}, declared.set.FixedTimespanSet.{FixedTimespanSet}}
+use Rattle.zone_tzif_core.specs.{Shown.{shift_shown, shifts_shown, zone_shown}, Tzif.{IsValue}, Zones.{KindValue}, declared.values.TzifZone.{TzifZone}}
+use Rattle.zone_tzif.specs.{Values.{change_by, value_by}, declared.convert.Saves.{Saves}}
 
 span_time_fits : (x : ℤ) → IsSpanTime x → FitsSigned w64 x
 span_time_fits x is = grind (arith, ints, is.0, is.1)

@@ -3,9 +3,7 @@ use Rattle.std.proofs.Common.{◌≡◌, None, Some, [], false, ℤ, pos, neg_�
 use Rattle.basics.specs.SignedLaws.{signed}
 use Rattle.tz_ever.specs.Seam.{next_seam, seam}
 use Rattle.tz_tzif.specs.FooterForce.{FooterZone, fixed}
-use Rattle.zone_tzif.specs.Agreement.{IsCovered, cycle_begin, cycle_end}
-use Rattle.zone_tzif.specs.Years.{IsInYears}
-use Rattle.zone_tzif.proofs.TailEverLemmas.{first_day, last_day, last_of_all, whole}
+use Rattle.zone_tzif.{specs.Agreement.{IsCovered, cycle_begin, cycle_end}, specs.Years.{IsInYears}, proofs.TailEverLemmas.{first_day, last_day, last_of_all, whole}}
 
 -- 0002-01-01 00:00:00 and 9599-12-31 23:59:59 by clocks an hour ahead of UTC, and a second on either side
 first_second : IsInYears (pos 2) (pos 9599) (pos 3600) (neg_ℤ (pos 62104064400))

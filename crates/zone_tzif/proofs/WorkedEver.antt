@@ -1,14 +1,11 @@
 -- The file of a zone for ever, at worked rows.
 use Rattle.std.proofs.Common.{◌≡◌, Bool, true, false, [], ◌∷◌, map, Option, Some, None, codes, refl, ℤ, pos, negsuc, ℕ}
-use Rattle.tz_posix.specs.declared.date.Date.TheVariants.{M}
-use Rattle.tz_posix.specs.declared.time.Offset.{Offset}
+use Rattle.tz_posix.specs.declared.{date.Date.TheVariants.{M}, time.Offset.{Offset}}
 use Rattle.zone_spans.specs.declared.span.FixedTimespan.{FixedTimespan}
 use Rattle.tz_tzif.specs.Values.{FooterValue}
 use Rattle.tz_zone.specs.declared.set.FixedTimespanSet.{FixedTimespanSet}
-use Rattle.zone_tzif_core.specs.Zones.{KindValue}
-use Rattle.zone_tzif_core.specs.declared.values.Version.TheVariants.{Two, Three}
-use Rattle.zone_tzif.specs.EverFiles.{entries_until, ever_zone, version_for}
-use Rattle.zone_tzif.specs.Values.{value_by}
+use Rattle.zone_tzif_core.specs.{Zones.{KindValue}, declared.values.Version.TheVariants.{Two, Three}}
+use Rattle.zone_tzif.specs.{EverFiles.{entries_until, ever_zone, version_for}, Values.{value_by}}
 
 abbrev time : Bool → ℕ → ℕ → Option Offset
 time positive hours minutes = Some (record { positive = positive; time = record { hh = hours; mm = Some minutes; ss = None } })

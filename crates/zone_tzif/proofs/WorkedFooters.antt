@@ -1,10 +1,8 @@
 -- Which strings may say otherwise as footers, at worked rows.
 use Rattle.std.proofs.Common.{◌≡◌, true, false, List, [], ◌∷◌, map, codes, refl, ℤ, pos}
-use Rattle.zone_spans.specs.Entries.{Entry}
-use Rattle.zone_spans.specs.declared.span.FixedTimespan.{FixedTimespan}
+use Rattle.zone_spans.specs.{Entries.{Entry}, declared.span.FixedTimespan.{FixedTimespan}}
 use Rattle.tz_zone.specs.declared.set.FixedTimespanSet.{FixedTimespanSet}
-use Rattle.zone_tail.specs.LastYear.{form, standard_of}
-use Rattle.zone_tail.specs.Tails.{is_ending_early, is_outlasting}
+use Rattle.zone_tail.specs.{LastYear.{form, standard_of}, Tails.{is_ending_early, is_outlasting}}
 use Rattle.zone_tzif.specs.Files.{is_contradicted}
 
 abbrev span : ℤ → FixedTimespan

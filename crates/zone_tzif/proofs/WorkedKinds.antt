@@ -1,16 +1,11 @@
 -- What spans are in a file, at worked rows.
-use Rattle.std.proofs.Common.{◌≡◌, Bool, true, false, [], ◌∷◌, map, Some, None, codes, refl, sym, ℤ, pos, negsuc}
-use Rattle.std.proofs.lemmas.Option.{none-some}
+use Rattle.std.proofs.{Common.{◌≡◌, Bool, true, false, [], ◌∷◌, map, Some, None, codes, refl, sym, ℤ, pos, negsuc}, lemmas.Option.{none-some}}
 use Rattle.zone_spans.specs.declared.span.FixedTimespan.{FixedTimespan}
 use Rattle.tz_zone.specs.declared.set.FixedTimespanSet.{FixedTimespanSet}
 use Rattle.zone_tail.specs.LastYear.{form, standard_of}
-use Rattle.zone_tzif_core.specs.Zones.{KindValue}
-use Rattle.zone_tzif_core.specs.declared.values.WriteFault.{WriteFault}
+use Rattle.zone_tzif_core.specs.{Zones.{KindValue}, declared.values.WriteFault.{WriteFault}}
 use Rattle.zone_tzif_core.specs.declared.values.WriteFault.TheVariants as write
-use Rattle.zone_tzif.specs.Files.{consistent_footer, footer_of, is_contradicted, IsFileFault}
-use Rattle.zone_tzif.specs.Values.{kind_by, kind_of, value_by, value_of}
-use Rattle.zone_tzif.specs.declared.convert.Saves.TheVariants.{Any}
-use Rattle.zone_tzif.specs.declared.file.FileFault.TheVariants.{Times, Types, Names, NoMemory}
+use Rattle.zone_tzif.specs.{Files.{consistent_footer, footer_of, is_contradicted, IsFileFault}, Values.{kind_by, kind_of, value_by, value_of}, declared.convert.Saves.TheVariants.{Any}, declared.file.FileFault.TheVariants.{Times, Types, Names, NoMemory}}
 
 abbrev span : ℤ → ℤ → FixedTimespan
 span offset saving = record { utc_offset = offset; dst_offset = saving; name = codes "A" }

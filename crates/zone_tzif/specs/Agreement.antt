@@ -1,14 +1,11 @@
 -- Where a footer gives the totals of a set that goes on for ever.
 use Rattle.std.specs.Prelude.{◌≡◌, ℕ, ◌<◌, length, Option, Some, None, ℤ, pos, ◌+ℤ◌, ◌*ℤ◌, ◌≤ℤ◌, ◌<ℤ◌}
 use Rattle.basics.specs.Days.{day}
-use Rattle.civil_base.specs.Instants.{seconds_of}
-use Rattle.civil_base.specs.Ranges.{IsOffset}
+use Rattle.civil_base.specs.{Instants.{seconds_of}, Ranges.{IsOffset}}
 use Rattle.tz_ever.specs.Ever.{ever_total}
 use Rattle.tz_tzif.specs.FooterForce.{FooterZone, held_at, saving_total, standard_total}
 use Rattle.tz_lookup.specs.YearSeconds.{rules_begin}
-use Rattle.tz_zone.specs.Sets.{shifts_of}
-use Rattle.tz_zone.specs.Spans.{shift_at}
-use Rattle.tz_zone.specs.declared.set.FixedTimespanSet.{FixedTimespanSet}
+use Rattle.tz_zone.specs.{Sets.{shifts_of}, Spans.{shift_at}, declared.set.FixedTimespanSet.{FixedTimespanSet}}
 use Rattle.zone_tail.specs.Carried.{IsFrom}
 
 -- the seconds east of UTC that a footer gives a second

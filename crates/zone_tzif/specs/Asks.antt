@@ -1,8 +1,7 @@
 -- What the program asks of a zone.
 use Rattle.std.specs.Prelude.{ℕ, List, [], ◌∷◌, Option, Some, None, option_map, codes}
 use Rattle.zone_run.specs.Asked.{Asked}
-use Rattle.zone_tzif_core.specs.declared.values.WriteFault.{WriteFault}
-use Rattle.zone_tzif_core.specs.declared.values.WriteFault.TheVariants.{Times, Types, Names, Offset, Footer, NoMemory}
+use Rattle.zone_tzif_core.specs.declared.values.WriteFault.{WriteFault, TheVariants.{Times, Types, Names, Offset, Footer, NoMemory}}
 use Rattle.zone_tzif.specs.Files.{file_fault, file_of_set}
 
 -- what stands after `tzif: `; the file of a set is refused neither for an offset nor for the footer, and want of memory has no line

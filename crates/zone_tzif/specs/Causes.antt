@@ -1,12 +1,9 @@
 -- Spans by their numbers, as kinds of a file, each once.
 use Rattle.std.specs.Prelude.{◌≡◌, ℕ, ◌<◌, Bool, true, false, List, [], bytes_eq, length, map, Option, Some, None}
 use Rattle.arrayvec.specs.ArrayVec.{ArrayVec}
-use Rattle.tz_zone.specs.Sets.{span_in}
-use Rattle.tz_zone.specs.declared.set.FixedTimespanSet.{FixedTimespanSet}
-use Rattle.zone_tzif_core.specs.Tzif.{added, each_once, is_same, kinds_of}
-use Rattle.zone_tzif_core.specs.Zones.{KindValue}
-use Rattle.zone_tzif.specs.Values.{kind_by, value_by}
-use Rattle.zone_tzif.specs.declared.convert.Saves.{Saves}
+use Rattle.tz_zone.specs.{Sets.{span_in}, declared.set.FixedTimespanSet.{FixedTimespanSet}}
+use Rattle.zone_tzif_core.specs.{Tzif.{added, each_once, is_same, kinds_of}, Zones.{KindValue}}
+use Rattle.zone_tzif.specs.{Values.{kind_by, value_by}, declared.convert.Saves.{Saves}}
 
 -- the kind of a span
 abbrev pub kind_in : Saves → FixedTimespanSet → ℕ → KindValue

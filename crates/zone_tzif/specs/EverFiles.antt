@@ -1,22 +1,13 @@
 -- The file of a zone for ever, and why there is none.
 use Rattle.std.specs.Prelude.{ℕ, Bool, true, ◌&&◌, nat_le, List, filter, Option, Some, None, if◌then◌else◌, ℤ, int_le}
-use Rattle.tz_tzif.specs.FooterForce.{FooterZone}
-use Rattle.tz_tzif.specs.Values.{FooterValue, SavingValue}
+use Rattle.tz_tzif.specs.{FooterForce.{FooterZone}, Values.{FooterValue, SavingValue}}
 use Rattle.tz_posix.specs.declared.time.Offset.{Offset}
 use Rattle.tz_zone.specs.declared.set.FixedTimespanSet.{FixedTimespanSet}
 use Rattle.zone_spans.specs.Entries.{Entry}
-use Rattle.zone_tzif.specs.Agreement.{IsCovered, cycle_begin}
-use Rattle.zone_tzif.specs.Tails.{IsFaultForEver, IsTailForEver}
-use Rattle.zone_tzif_core.specs.Tzif.{IsTzifBy, write_fault}
-use Rattle.zone_tzif_core.specs.Zones.{ZoneValue}
-use Rattle.zone_tzif_core.specs.declared.values.Version.{Version}
-use Rattle.zone_tzif_core.specs.declared.values.Version.TheVariants.{Two, Three}
-use Rattle.zone_tzif.specs.Files.{IsFileFault}
-use Rattle.zone_tzif.specs.Values.{value_by}
-use Rattle.zone_tzif.specs.declared.convert.Saves.TheVariants.{Any}
-use Rattle.zone_tzif.specs.declared.ever.EverFileFault.{EverFileFault}
-use Rattle.zone_tzif.specs.declared.ever.EverFileFault.TheVariants as fault
+use Rattle.zone_tzif.specs.{Agreement.{IsCovered, cycle_begin}, Tails.{IsFaultForEver, IsTailForEver}, Files.{IsFileFault}, Values.{value_by}, declared.convert.Saves.TheVariants.{Any}, declared.ever.EverFileFault.{EverFileFault}}
 use Rattle.zone_tzif.specs.declared.file.FileFault.{FileFault}
+use Rattle.zone_tzif.specs.declared.ever.EverFileFault.TheVariants as fault
+use Rattle.zone_tzif_core.specs.{Tzif.{IsTzifBy, write_fault}, Zones.{ZoneValue}, declared.values.Version.{Version}, declared.values.Version.TheVariants.{Two, Three}}
 
 -- the entries up to a second
 unfoldable pub entries_until : ℤ → List Entry → List Entry

@@ -1,18 +1,10 @@
 -- The file of a compiled set, and why there is none.
 use Rattle.std.specs.Prelude.{◌≡◌, ℕ, Bool, ◌||◌, List, [], Option, Some, None, Result, Ok, Err, if◌then◌else◌, is_none}
 use Rattle.tz_zone.specs.declared.set.FixedTimespanSet.{FixedTimespanSet}
-use Rattle.zone_tail.specs.Carried.{CarriesOn}
-use Rattle.zone_tail.specs.Found.{found_from, found_text}
-use Rattle.zone_tail.specs.Tails.{is_ending_early, is_outlasting, tail_fault, IsTail}
-use Rattle.zone_tzif_core.specs.Tzif.{tzif, tzif_by, write_fault}
-use Rattle.zone_tzif_core.specs.Zones.{ZoneValue}
-use Rattle.zone_tzif_core.specs.declared.values.Version.{Version}
-use Rattle.zone_tzif_core.specs.declared.values.Version.TheVariants.{Two}
-use Rattle.zone_tzif_core.specs.declared.values.WriteFault.{WriteFault}
+use Rattle.zone_tail.specs.{Carried.{CarriesOn}, Found.{found_from, found_text}, Tails.{is_ending_early, is_outlasting, tail_fault, IsTail}}
+use Rattle.zone_tzif_core.specs.{Tzif.{tzif, tzif_by, write_fault}, Zones.{ZoneValue}, declared.values.Version.{Version}, declared.values.Version.TheVariants.{Two}, declared.values.WriteFault.{WriteFault}}
 use Rattle.zone_tzif_core.specs.declared.values.WriteFault.TheVariants as write
-use Rattle.zone_tzif.specs.Values.{value_of}
-use Rattle.zone_tzif.specs.declared.file.FileFault.{FileFault}
-use Rattle.zone_tzif.specs.declared.file.FileFault.TheVariants.{Times, Types, Names, NoMemory}
+use Rattle.zone_tzif.specs.{Values.{value_of}, declared.file.FileFault.{FileFault}, declared.file.FileFault.TheVariants.{Times, Types, Names, NoMemory}}
 
 -- the string that carries the set on, or nothing where it has none
 unfoldable pub footer_of : FixedTimespanSet → List ℕ

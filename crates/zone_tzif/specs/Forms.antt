@@ -1,12 +1,9 @@
 -- What was found of the entries of 2102.
 use Rattle.std.specs.Prelude.{◌≡◌, ℕ, ◌<◌, ◌≤◌, ◌&&◌, length, true}
-use Rattle.tz_zone.specs.Sets.{span_in}
-use Rattle.tz_zone.specs.declared.set.FixedTimespanSet.{FixedTimespanSet}
-use Rattle.zone_tail.specs.LastYear as year
+use Rattle.tz_zone.specs.{Sets.{span_in}, declared.set.FixedTimespanSet.{FixedTimespanSet}}
 use Rattle.zone_tail.specs.Shapes.{entry_in}
-use Rattle.zone_tzif.specs.Tried.{is_of_year}
-use Rattle.zone_tzif.specs.declared.form.Form.{Form}
-use Rattle.zone_tzif.specs.declared.form.Form.TheVariants.{Steady, Yearly, Other}
+use Rattle.zone_tail.specs.LastYear as year
+use Rattle.zone_tzif.specs.{Tried.{is_of_year}, declared.form.Form.{Form}, declared.form.Form.TheVariants.{Steady, Yearly, Other}}
 
 pub record ArePlaced (set : FixedTimespanSet) (start end : ℕ) : Type 0 where
   pub start_within : start < length set.others

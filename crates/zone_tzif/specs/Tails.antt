@@ -1,13 +1,8 @@
 -- The footer that carries a set on for ever, and why there is none.
 use Rattle.std.specs.Prelude.{◌≡◌, ℕ, ◌<◌, List, Option, Some, None, ℤ}
-use Rattle.tz_tzif.specs.FooterForce.{FooterZone}
-use Rattle.tz_tzif.specs.Standing.{StandsFor}
+use Rattle.tz_tzif.specs.{FooterForce.{FooterZone}, Standing.{StandsFor}}
 use Rattle.tz_zone.specs.declared.set.FixedTimespanSet.{FixedTimespanSet}
-use Rattle.zone_tzif.specs.Tells.{Tells}
-use Rattle.zone_tzif.specs.Tried.{ever_fault, how_many, tried}
-use Rattle.zone_tzif.specs.declared.agreeing.Agreement.{Agreement}
-use Rattle.zone_tzif.specs.declared.agreeing.Agreement.TheVariants.{Nowhere, From, Always}
-use Rattle.zone_tzif.specs.declared.outcome.EverTailFault.{EverTailFault}
+use Rattle.zone_tzif.specs.{Tells.{Tells}, Tried.{ever_fault, how_many, tried}, declared.agreeing.Agreement.{Agreement}, declared.agreeing.Agreement.TheVariants.{Nowhere, From, Always}, declared.outcome.EverTailFault.{EverTailFault}}
 use Rattle.zone_tzif.specs.declared.outcome.EverTailFault.TheVariants as fault
 
 -- a text is no footer that does so

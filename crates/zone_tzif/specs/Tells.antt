@@ -1,9 +1,7 @@
 -- Where a footer begins to give a set's totals for ever, as it is told.
 use Rattle.tz_tzif.specs.FooterForce.{FooterZone}
 use Rattle.tz_zone.specs.declared.set.FixedTimespanSet.{FixedTimespanSet}
-use Rattle.zone_tzif.specs.Agreement.{AgreesAlways, AgreesFirstFrom, AgreesNowhere}
-use Rattle.zone_tzif.specs.declared.agreeing.Agreement.{Agreement}
-use Rattle.zone_tzif.specs.declared.agreeing.Agreement.TheVariants.{Nowhere, From, Always}
+use Rattle.zone_tzif.specs.{Agreement.{AgreesAlways, AgreesFirstFrom, AgreesNowhere}, declared.agreeing.Agreement.{Agreement}, declared.agreeing.Agreement.TheVariants.{Nowhere, From, Always}}
 
 abbrev pub Tells : FooterZone → FixedTimespanSet → Agreement → Type 0
 Tells zone set Nowhere = AgreesNowhere zone set × (AgreesAlways zone set → ⊥)

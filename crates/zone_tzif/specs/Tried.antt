@@ -1,21 +1,11 @@
 -- The footers that are tried for a set, by number: each names the entries of one year by days and times of its own.
-use Rattle.std.specs.Prelude.{ℕ, suc, ◌+◌, ◌-◌, ◌/◌, ◌%◌, Bool, not, ◌&&◌, ◌==◌, nat_le, nat_lt, List, [], ◌∷◌, ◌++◌, codes, Option, Some, None, if◌then◌else◌, ℤ, pos, neg_ℤ, ◌+ℤ◌, ◌-ℤ◌, ◌*ℤ◌, int_le, int_lt, unsigned_abs}
-use Rattle.std.specs.Fmt.{decimal}
-use Rattle.std.specs.Int.{int_div_euclid, int_rem_euclid}
-use Rattle.std.specs.Ordering.{int_eq}
-use Rattle.basics.specs.Dates.{day_of, month_of, year_of}
-use Rattle.basics.specs.Days.{days_in_month}
-use Rattle.basics.specs.Weekdays.{weekday_of}
+use Rattle.std.specs.{Prelude.{ℕ, suc, ◌+◌, ◌-◌, ◌/◌, ◌%◌, Bool, not, ◌&&◌, ◌==◌, nat_le, nat_lt, List, [], ◌∷◌, ◌++◌, codes, Option, Some, None, if◌then◌else◌, ℤ, pos, neg_ℤ, ◌+ℤ◌, ◌-ℤ◌, ◌*ℤ◌, int_le, int_lt, unsigned_abs}, Fmt.{decimal}}
+use Rattle.std.specs.{Int.{int_div_euclid, int_rem_euclid}, Ordering.{int_eq}}
+use Rattle.basics.specs.{Dates.{day_of, month_of, year_of}, Days.{days_in_month}, Weekdays.{weekday_of}}
 use Rattle.zone_spans.specs.Entries.{Entry, total}
-use Rattle.tz_zone.specs.Sets.{shifts_of, span_in}
-use Rattle.tz_zone.specs.Spans.{Shift}
-use Rattle.tz_zone.specs.declared.set.FixedTimespanSet.{FixedTimespanSet}
-use Rattle.zone_tail.specs.LastYear.{Form, steady, yearly, other}
-use Rattle.zone_tail.specs.Shapes.{entry_in}
-use Rattle.zone_tail.specs.Tails.{can_be_written, is_name}
-use Rattle.zone_tail.specs.Texts.{name_text, offset_text, saving_text, time_text}
-use Rattle.zone_tzif.specs.Agreement.{cycle_begin}
-use Rattle.zone_tzif.specs.declared.outcome.EverTailFault.{EverTailFault}
+use Rattle.tz_zone.specs.{Sets.{shifts_of, span_in}, Spans.{Shift}, declared.set.FixedTimespanSet.{FixedTimespanSet}}
+use Rattle.zone_tail.specs.{LastYear.{Form, steady, yearly, other}, Shapes.{entry_in}, Tails.{can_be_written, is_name}, Texts.{name_text, offset_text, saving_text, time_text}}
+use Rattle.zone_tzif.specs.{Agreement.{cycle_begin}, declared.outcome.EverTailFault.{EverTailFault}}
 use Rattle.zone_tzif.specs.declared.outcome.EverTailFault.TheVariants as fault
 
 -- ---- the entries of 2102

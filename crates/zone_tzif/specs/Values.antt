@@ -1,12 +1,9 @@
 -- What a compiled set is in a file.
-use Rattle.std.specs.Prelude.{ℕ, ℤ, pos, Bool, not, int_lt, List, map}
-use Rattle.std.specs.Ordering.{int_eq}
-use Rattle.zone_spans.specs.Entries.{Entry, total}
-use Rattle.zone_spans.specs.declared.span.FixedTimespan.{FixedTimespan}
+use Rattle.std.specs.{Prelude.{ℕ, ℤ, pos, Bool, not, int_lt, List, map}, Ordering.{int_eq}}
+use Rattle.zone_spans.specs.{Entries.{Entry, total}, declared.span.FixedTimespan.{FixedTimespan}}
 use Rattle.tz_zone.specs.declared.set.FixedTimespanSet.{FixedTimespanSet}
 use Rattle.zone_tzif_core.specs.Zones.{KindValue, ZoneValue}
-use Rattle.zone_tzif.specs.declared.convert.Saves.{Saves}
-use Rattle.zone_tzif.specs.declared.convert.Saves.TheVariants.{Above, Any}
+use Rattle.zone_tzif.specs.declared.convert.Saves.{Saves, TheVariants.{Above, Any}}
 
 -- which saving is daylight saving time: one above 0, or any but 0
 abbrev pub is_saved : Saves → ℤ → Bool

@@ -3,9 +3,7 @@ use Rattle.std.specs.Prelude.{◌≡◌, ℕ, suc, ◌<◌, ◌≤◌, length, O
 use Rattle.zone_spans.specs.Entries.{total}
 use Rattle.tz_tzif.specs.FooterForce.{FooterZone}
 use Rattle.tz_lookup.specs.YearSeconds.{rules_begin}
-use Rattle.tz_zone.specs.Sets.{shifts_of}
-use Rattle.tz_zone.specs.Spans.{total_from}
-use Rattle.tz_zone.specs.declared.set.FixedTimespanSet.{FixedTimespanSet}
+use Rattle.tz_zone.specs.{Sets.{shifts_of}, Spans.{total_from}, declared.set.FixedTimespanSet.{FixedTimespanSet}}
 use Rattle.zone_tail.specs.Carried.{IsFrom}
 use Rattle.zone_tzif.specs.Agreement.{cycle_end, footer_total, time_of_entry}
 

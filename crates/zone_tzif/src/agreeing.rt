@@ -1,12 +1,9 @@
 //! Where a footer begins to give the totals of a set that goes on for ever.
 ghost use Rattle.std.specs.Prelude.{◌≡◌, ◌<◌, ◌↔◌, IsTrue, length, ◌≤ℤ◌};
 ghost use Rattle.civil_base.specs.Ranges.{IsOffset};
-ghost use Rattle.tz_tzif.specs.FooterShown.{footer_shown};
-ghost use Rattle.tz_tzif.specs.FooterForce.{standard_total};
+ghost use Rattle.tz_tzif.specs.{FooterShown.{footer_shown}, FooterForce.{standard_total}};
 ghost use Rattle.tz_zone.specs.Sets.{IsAccepted, schedule_of, shifts_of};
-ghost use Rattle.zone_tzif.specs.Agreement.{AgreesAlways, IsFlat, cycle_begin, time_of_entry};
-ghost use Rattle.zone_tzif.specs.Tells.{Tells, TellsEntry};
-ghost use Rattle.zone_tzif.specs.Walked.{IsWalked};
+ghost use Rattle.zone_tzif.specs.{Agreement.{AgreesAlways, IsFlat, cycle_begin, time_of_entry}, Tells.{Tells, TellsEntry}, Walked.{IsWalked}};
 
 use crate::repeats::footers_repeat;
 use crate::walk::walk;

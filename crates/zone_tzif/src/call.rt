@@ -2,9 +2,7 @@
 ghost use Rattle.std.specs.Prelude.{◌≡◌, ◌<◌, IfOk, MatchOption, MatchResult, None, string_bytes};
 ghost use Rattle.tz_ever.specs.EverShown.{ever_seen};
 ghost use Rattle.tz_zone.specs.Sets.{IsAccepted, schedule_of};
-ghost use Rattle.zone_tzif.specs.Forms.{Shows};
-ghost use Rattle.zone_tzif.specs.Tails.{CarriesForEver, CarriesNothing, IsFaultForEver, IsTailForEver, TextTells};
-ghost use Rattle.zone_tzif.specs.Tried.{ever_fault, ever_form, how_many, tried};
+ghost use Rattle.zone_tzif.specs.{Forms.{Shows}, Tails.{CarriesForEver, CarriesNothing, IsFaultForEver, IsTailForEver, TextTells}, Tried.{ever_fault, ever_form, how_many, tried}};
 
 use crate::agreeing::{Agreement, first_agreement};
 use crate::faults::fault_in;

@@ -2,20 +2,11 @@
 ghost use Rattle.std.specs.Prelude.{◌≡◌, ℕ, ℤ, ◌<ℤ◌, List, Option, Some, true};
 ghost use Rattle.civil_base.specs.Instants.{seconds_of};
 ghost use Rattle.zone_spans.specs.Schedules.{total_at as set_total_at};
-ghost use Rattle.tz_zone.specs.Sets.{schedule_of};
-ghost use Rattle.tz_zone.specs.declared.set.FixedTimespanSet.{FixedTimespanSet};
-ghost use Rattle.tz_tzif.specs.FooterForce.{FooterZone, is_of_one_year};
-ghost use Rattle.tz_tzif.specs.Standing.{StandsFor};
-ghost use Rattle.tz_tzif.specs.Faults.{SaysInFooter};
-ghost use Rattle.tz_tzif.specs.InForce.{are_over, told_total_at};
-ghost use Rattle.zone_tail.specs.Carried.{CarriesOn};
-ghost use Rattle.zone_tail.specs.Tails.{IsTail, end_of_last_year, is_ending_early};
-ghost use Rattle.zone_tzif_core.specs.Denotes.{Denotes};
-ghost use Rattle.zone_tzif_core.specs.Tzif.{IsTzif};
-ghost use Rattle.zone_tzif_core.specs.Zones.{ZoneValue};
-ghost use Rattle.zone_tzif.specs.Files.{consistent_zone, IsCarriedOn};
-ghost use Rattle.zone_tzif.specs.Values.{value_of};
-ghost use Rattle.zone_tzif.specs.Footers.{IsFooterText, IsSaid};
+ghost use Rattle.tz_zone.specs.{Sets.{schedule_of}, declared.set.FixedTimespanSet.{FixedTimespanSet}};
+ghost use Rattle.tz_tzif.specs.{FooterForce.{FooterZone, is_of_one_year}, Standing.{StandsFor}, Faults.{SaysInFooter}, InForce.{are_over, told_total_at}};
+ghost use Rattle.zone_tail.specs.{Carried.{CarriesOn}, Tails.{IsTail, end_of_last_year, is_ending_early}};
+ghost use Rattle.zone_tzif_core.specs.{Denotes.{Denotes}, Tzif.{IsTzif}, Zones.{ZoneValue}};
+ghost use Rattle.zone_tzif.specs.{Files.{consistent_zone, IsCarriedOn}, Values.{value_of}, Footers.{IsFooterText, IsSaid}};
 
 use crate::laws::totals_kept;
 use tz_tzif::{file_totals, one_footer};

@@ -1,17 +1,11 @@
 //! Why a set has no file, found without memory.
-ghost use Rattle.std.specs.Prelude.{◌≡◌, ◌≢◌, ◌==◌, ◌+◌, ◌<◌, ◌≤◌, not, nat_le, ℕ, List, [], Some, true, int_lt, length, map, bytes_eq};
-ghost use Rattle.std.specs.List.{list_all, list_any};
+ghost use Rattle.std.specs.{Prelude.{◌≡◌, ◌≢◌, ◌==◌, ◌+◌, ◌<◌, ◌≤◌, not, nat_le, ℕ, List, [], Some, true, int_lt, length, map, bytes_eq}, List.{list_all, list_any}};
 ghost use Rattle.arrayvec.specs.ArrayVec.{array_vec_len};
 ghost use Rattle.civil_base.specs.Ranges.{is_offset};
 ghost use Rattle.zone_spans.specs.Entries.{total};
-ghost use Rattle.tz_zone.specs.Sets.{schedule_of, shifts_of, span_in, IsAccepted};
-ghost use Rattle.tz_zone.specs.Spans.{shift_at};
-ghost use Rattle.zone_tzif_core.specs.Shown.{record_shown};
-ghost use Rattle.zone_tzif_core.specs.Tzif.{added, are_names, are_times, is_same, name_bytes, write_fault};
-ghost use Rattle.zone_tzif_core.specs.Zones.{rises};
-ghost use Rattle.zone_tzif.specs.Causes.{kind_in, name_in, names_in, AddsKind, AreKinds};
-ghost use Rattle.zone_tzif.specs.Files.{IsFileFault};
-ghost use Rattle.zone_tzif.specs.Values.{kind_by, value_by, value_of};
+ghost use Rattle.tz_zone.specs.{Sets.{schedule_of, shifts_of, span_in, IsAccepted}, Spans.{shift_at}};
+ghost use Rattle.zone_tzif_core.specs.{Shown.{record_shown}, Tzif.{added, are_names, are_times, is_same, name_bytes, write_fault}, Zones.{rises}};
+ghost use Rattle.zone_tzif.specs.{Causes.{kind_in, name_in, names_in, AddsKind, AreKinds}, Files.{IsFileFault}, Values.{kind_by, value_by, value_of}};
 
 use crate::convert::Saves;
 use crate::file::FileFault;

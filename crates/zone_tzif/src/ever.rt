@@ -1,15 +1,10 @@
 //! The file of a zone that goes on for ever.
 ghost use Rattle.std.specs.Prelude.{◌≡◌, ℕ, ℤ, IfOk, List, MatchResult, Option, string_bytes};
-ghost use Rattle.tz_ever.specs.Ever.{ever_total};
-ghost use Rattle.tz_ever.specs.EverShown.{ever_seen};
-ghost use Rattle.tz_tzif.specs.FooterForce.{FooterZone};
-ghost use Rattle.tz_tzif.specs.Faults.{SaysInFooter};
-ghost use Rattle.tz_tzif.specs.InForce.{told_total_at};
+ghost use Rattle.tz_ever.specs.{Ever.{ever_total}, EverShown.{ever_seen}};
+ghost use Rattle.tz_tzif.specs.{FooterForce.{FooterZone}, Faults.{SaysInFooter}, InForce.{told_total_at}};
 ghost use Rattle.tz_zone.specs.declared.set.FixedTimespanSet.{FixedTimespanSet};
-ghost use Rattle.zone_tzif.specs.Tails.{IsTailForEver};
-ghost use Rattle.zone_tzif_core.specs.Denotes.{Denotes};
-ghost use Rattle.zone_tzif_core.specs.Zones.{ZoneValue};
-ghost use Rattle.zone_tzif.specs.EverFiles.{IsEverFile, IsEverFileFault, IsInReach};
+ghost use Rattle.zone_tzif.specs.{Tails.{IsTailForEver}, EverFiles.{IsEverFile, IsEverFileFault, IsInReach}};
+ghost use Rattle.zone_tzif_core.specs.{Denotes.{Denotes}, Zones.{ZoneValue}};
 
 use crate::call::tail_for_ever;
 use crate::convert::Saves;

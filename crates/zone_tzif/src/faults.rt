@@ -3,10 +3,8 @@ ghost use Rattle.std.specs.Prelude.{◌≡◌, ◌<◌, ◌&&◌, length, pos, n
 ghost use Rattle.civil_base.specs.Ranges.{greatest_offset};
 ghost use Rattle.tz_zone.specs.Sets.{IsAccepted, schedule_of};
 ghost use Rattle.zone_spans.specs.Entries.{total};
-ghost use Rattle.zone_tail.specs.Shapes.{entry_in};
-ghost use Rattle.zone_tail.specs.Tails.{can_be_written, is_name};
-ghost use Rattle.zone_tzif.specs.Forms.{ArePlaced, Shows};
-ghost use Rattle.zone_tzif.specs.Tried.{ever_fault, ever_form, written_or};
+ghost use Rattle.zone_tail.specs.{Shapes.{entry_in}, Tails.{can_be_written, is_name}};
+ghost use Rattle.zone_tzif.specs.{Forms.{ArePlaced, Shows}, Tried.{ever_fault, ever_form, written_or}};
 
 use crate::form::Form;
 use crate::outcome::EverTailFault;

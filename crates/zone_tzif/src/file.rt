@@ -2,15 +2,9 @@
 ghost use Rattle.std.specs.Prelude.{◌≡◌, ◌≢◌, ℤ, None, Some, IfOk, string_bytes};
 ghost use Rattle.zone_spans.specs.Schedules.{total_at as set_total_at};
 ghost use Rattle.tz_zone.specs.Sets.{schedule_of, IsAccepted};
-ghost use Rattle.zone_tail.specs.Carried.{CarriesOn};
-ghost use Rattle.zone_tail.specs.Found.{found_from};
-ghost use Rattle.zone_tail.specs.Tails.{tail_fault};
-ghost use Rattle.zone_tzif_core.specs.Denotes.{Denotes};
-ghost use Rattle.zone_tzif_core.specs.Totals.{file_total_at};
-ghost use Rattle.zone_tzif_core.specs.Tzif.{IsTzif, IsTzifBy, write_fault};
-ghost use Rattle.zone_tzif_core.specs.Zones.{ZoneValue};
-ghost use Rattle.zone_tzif.specs.Files.{consistent_footer, consistent_zone, footer_of, is_contradicted, zone_of, IsCarriedOn, Makes, MakesBy, MakesZone};
-ghost use Rattle.zone_tzif.specs.Values.{value_by};
+ghost use Rattle.zone_tail.specs.{Carried.{CarriesOn}, Found.{found_from}, Tails.{tail_fault}};
+ghost use Rattle.zone_tzif_core.specs.{Denotes.{Denotes}, Totals.{file_total_at}, Tzif.{IsTzif, IsTzifBy, write_fault}, Zones.{ZoneValue}};
+ghost use Rattle.zone_tzif.specs.{Files.{consistent_footer, consistent_zone, footer_of, is_contradicted, zone_of, IsCarriedOn, Makes, MakesBy, MakesZone}, Values.{value_by}};
 
 use crate::causes::cause_of;
 use crate::convert::{Saves, zone_by};

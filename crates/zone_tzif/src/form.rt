@@ -2,8 +2,7 @@
 ghost use Rattle.std.specs.Prelude.{◌≡◌, ◌≤◌, ◌<◌, length, pos};
 ghost use Rattle.tz_zone.specs.Sets.{shifts_of};
 ghost use Rattle.zone_tail.specs.Shapes.{entry_in};
-ghost use Rattle.zone_tzif.specs.Forms.{Shows};
-ghost use Rattle.zone_tzif.specs.Tried.{are_start_and_end, ever_form, first_from, form_of_two, is_of_year};
+ghost use Rattle.zone_tzif.specs.{Forms.{Shows}, Tried.{are_start_and_end, ever_form, first_from, form_of_two, is_of_year}};
 
 use tz_lookup::{FixedTimespan, SpanTable};
 

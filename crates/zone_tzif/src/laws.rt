@@ -1,14 +1,9 @@
 //! What a file of a compiled set says.
 ghost use Rattle.std.specs.Prelude.{◌≡◌, ◌≢◌, ℕ, ℤ, List, Some};
 ghost use Rattle.zone_spans.specs.Schedules.{total_at as set_total_at};
-ghost use Rattle.tz_zone.specs.Sets.{schedule_of, IsAccepted};
-ghost use Rattle.tz_zone.specs.declared.set.FixedTimespanSet.{FixedTimespanSet};
-ghost use Rattle.zone_tzif_core.specs.Denotes.{Denotes};
-ghost use Rattle.zone_tzif_core.specs.Totals.{file_total_at};
-ghost use Rattle.zone_tzif_core.specs.Tzif.{IsTzif};
-ghost use Rattle.zone_tzif_core.specs.Zones.{ZoneValue};
-ghost use Rattle.zone_tzif.specs.Files.{consistent_fault, file_fault};
-ghost use Rattle.zone_tzif.specs.Values.{value_of};
+ghost use Rattle.tz_zone.specs.{Sets.{schedule_of, IsAccepted}, declared.set.FixedTimespanSet.{FixedTimespanSet}};
+ghost use Rattle.zone_tzif_core.specs.{Denotes.{Denotes}, Totals.{file_total_at}, Tzif.{IsTzif}, Zones.{ZoneValue}};
+ghost use Rattle.zone_tzif.specs.{Files.{consistent_fault, file_fault}, Values.{value_of}};
 
 use zone_tail::laws::one_line;
 use zone_tzif_core::{WriteFault, one_reading, one_value, written_denotes};

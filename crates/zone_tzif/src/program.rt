@@ -1,11 +1,8 @@
 //! The program: its words, its answer, its run.
-ghost use Rattle.std.specs.Prelude.{◌<◌, codes};
-ghost use Rattle.std.specs.Option.{ForSome};
-ghost use Rattle.zone_run.specs.Ends.{Ends};
+ghost use Rattle.std.specs.{Prelude.{◌<◌, codes}, Option.{ForSome}};
+ghost use Rattle.zone_run.specs.{Ends.{Ends}, Tasks.{task_of}};
 ghost use Rattle.zone_source.specs.Runs.{seen};
-ghost use Rattle.zone_run.specs.Tasks.{task_of};
-ghost use Rattle.zone_tzif.specs.Asks.{asks, form};
-ghost use Rattle.zone_tzif.specs.Starts.{StartsTzif};
+ghost use Rattle.zone_tzif.specs.{Asks.{asks, form}, Starts.{StartsTzif}};
 
 use crate::file::{FileFault, tzif_of};
 use std::alloc::Global;

@@ -3,8 +3,7 @@
 //! Days are counted in the years -10000 to 10000, so each law names the years for which it holds, by clocks of standard time.
 ghost use Rattle.std.specs.Prelude.{◌≡◌, ℤ, pos};
 ghost use Rattle.zone_spans.specs.Cycle.{seconds_on};
-ghost use Rattle.tz_posix.specs.InForce.{YearlyTime, posix_total};
-ghost use Rattle.tz_posix.specs.PosixZones.{Given, GivesByRule, Named};
+ghost use Rattle.tz_posix.specs.{InForce.{YearlyTime, posix_total}, PosixZones.{Given, GivesByRule, Named}};
 ghost use Rattle.tz_tzif.specs.FooterForce.{FooterZone, held_at, standard_total};
 ghost use Rattle.zone_tzif.specs.Years.{IsInYears};
 

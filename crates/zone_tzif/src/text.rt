@@ -1,8 +1,6 @@
 //! The texts of the footers that are tried.
-ghost use Rattle.std.specs.Prelude.{◌≡◌, ◌++◌, ◌<◌, ◌≤◌, ◌/◌, OnOk, IfOk, IsTrue, string_bytes, pos, neg_ℤ, ◌+ℤ◌, ◌-ℤ◌, ◌*ℤ◌, ◌<ℤ◌, ◌≤ℤ◌, unsigned_abs};
-ghost use Rattle.std.specs.Int.{int_div_euclid};
-ghost use Rattle.zone_tail.specs.Tails.{can_be_written};
-ghost use Rattle.zone_tail.specs.Texts.{name_text, offset_text, saving_text};
+ghost use Rattle.std.specs.{Prelude.{◌≡◌, ◌++◌, ◌<◌, ◌≤◌, ◌/◌, OnOk, IfOk, IsTrue, string_bytes, pos, neg_ℤ, ◌+ℤ◌, ◌-ℤ◌, ◌*ℤ◌, ◌<ℤ◌, ◌≤ℤ◌, unsigned_abs}, Int.{int_div_euclid}};
+ghost use Rattle.zone_tail.specs.{Tails.{can_be_written}, Texts.{name_text, offset_text, saving_text}};
 ghost use Rattle.zone_tzif.specs.Tried.{change_by, days_back, is_past_noon, moment_text, parts_text, signed_text, week_of};
 
 use basics::{date_of, month_length, weekday};

@@ -3,12 +3,8 @@ ghost use Rattle.std.specs.Prelude.{◌≡◌, ◌<◌, ◌&&◌, ◌++◌, IfOk
 ghost use Rattle.civil_base.specs.Ranges.{greatest_offset};
 ghost use Rattle.tz_zone.specs.Sets.{IsAccepted, schedule_of};
 ghost use Rattle.zone_spans.specs.Entries.{total};
-ghost use Rattle.zone_tail.specs.LastYear.{yearly};
-ghost use Rattle.zone_tail.specs.Shapes.{entry_in};
-ghost use Rattle.zone_tail.specs.Tails.{can_be_written};
-ghost use Rattle.zone_tzif.specs.Forms.{ArePlaced, Shows};
-ghost use Rattle.zone_tzif.specs.Tried.{changes_by, ever_fault, ever_form, how_many, is_of_year, next_year, tried, tried_for};
-ghost use Rattle.zone_tzif.specs.Agreement.{cycle_begin};
+ghost use Rattle.zone_tail.specs.{LastYear.{yearly}, Shapes.{entry_in}, Tails.{can_be_written}};
+ghost use Rattle.zone_tzif.specs.{Forms.{ArePlaced, Shows}, Tried.{changes_by, ever_fault, ever_form, how_many, is_of_year, next_year, tried, tried_for}, Agreement.{cycle_begin}};
 
 use crate::faults::total_of_entry;
 use crate::form::Form;

@@ -23,9 +23,7 @@ impl<'a> Until<'a> {
     ghost use Rattle.std.specs.Prelude.{◌≡◌};
     ghost use Rattle.tz_ever.specs.EverShown.{ever_seen};
     ghost use Rattle.tz_zone.specs.Sets.{IsAccepted, schedule_of};
-    ghost use Rattle.zone_tzif.specs.Agreement.{cycle_begin};
-    ghost use Rattle.zone_tzif.specs.EverFiles.{until};
-    ghost use Rattle.zone_tzif.specs.Until.{until_of};
+    ghost use Rattle.zone_tzif.specs.{Agreement.{cycle_begin}, EverFiles.{until}, Until.{until_of}};
 
     /// The entries up to 2102-01-01 00:00:00 UTC.
     pub(crate) fn new(set: &'a EverSet) -> Until<'a>

@@ -1,8 +1,6 @@
 //! The version of a file by its footer.
 ghost use Rattle.std.specs.Prelude.{◌≡◌};
-ghost use Rattle.tz_tzif.specs.Shown.{text_shown};
-ghost use Rattle.tz_tzif.specs.Spells.{SpellsFooter};
-ghost use Rattle.tz_tzif.specs.Values.{FooterValue};
+ghost use Rattle.tz_tzif.specs.{Shown.{text_shown}, Spells.{SpellsFooter}, Values.{FooterValue}};
 ghost use Rattle.zone_tzif.specs.EverFiles.{is_posix_time, version_for};
 
 use tz_posix::Offset;

@@ -3,8 +3,7 @@ ghost use Rattle.std.specs.Prelude.{◌≡◌, suc, ◌≤◌, ◌<◌, ◌↔�
 ghost use Rattle.tz_tzif.specs.FooterShown.{footer_shown};
 ghost use Rattle.tz_lookup.specs.YearSeconds.{rules_begin};
 ghost use Rattle.tz_zone.specs.Sets.{IsAccepted, schedule_of, shifts_of};
-ghost use Rattle.zone_tzif.specs.Agreement.{cycle_end, footer_total, time_of_entry};
-ghost use Rattle.zone_tzif.specs.Walked.{AgreesAt, IsNear, IsWalked, Lasts};
+ghost use Rattle.zone_tzif.specs.{Agreement.{cycle_end, footer_total, time_of_entry}, Walked.{AgreesAt, IsNear, IsWalked, Lasts}};
 
 use tz_lookup::{RULES_BEGIN, SpanTable};
 use tz_tzif::Footer;

@@ -1,18 +1,10 @@
 -- What a file denotes is read from it.
 use Rattle.std.proofs.Common.{◌≡◌, ℕ, ◌+◌, ◌-◌, ◌*◌, ℤ, Bool, true, false, not, List, [], ◌∷◌, ◌++◌, length, take, get_or, Some, option_and_then, slice_get, slice_range, refl, sym, ap, ◌∙◌, arith, nat_eq, nat_le, nat_lt, append_assoc, append-nil, length-append}
-use Rattle.std.proofs.lemmas.Bool.{and_parts}
-use Rattle.std.proofs.lemmas.Bool.Decides.{nat_tests}
-use Rattle.std.proofs.lemmas.List.{take_at, drop_at}
-use Rattle.std.proofs.Math.Nat.{mul-suc, mul-zero}
-use Rattle.std.proofs.Math.Seq.{get_or-append_seam}
-use Rattle.std.proofs.lemmas.Str.{is_utf8-from_IsUtf8}
-use Rattle.std.specs.List.{list_all, prefix_len}
-use Rattle.std.specs.Str.{IsUtf8}
-use Rattle.zone_tzif_core.specs.Zones.{KindValue, ZoneValue, rises}
-use Rattle.zone_tzif_core.specs.Format.{is_one_line, is_only, suits}
+use Rattle.std.proofs.{lemmas.Bool.{and_parts}, lemmas.Bool.Decides.{nat_tests}, lemmas.List.{take_at, drop_at}, Math.Nat.{mul-suc, mul-zero}, Math.Seq.{get_or-append_seam}, lemmas.Str.{is_utf8-from_IsUtf8}}
+use Rattle.std.specs.{List.{list_all, prefix_len}, Str.{IsUtf8}}
+use Rattle.zone_tzif_core.specs.{Zones.{KindValue, ZoneValue, rises}, Format.{is_one_line, is_only, suits}}
 use Rattle.zone_tzif_core.specs.Reading.{cut, header_at, text_in, between, end_in, footer_in, before_zero, name_in, kind_in, kinds_in, shifts_in, block_in, second_in, parts_in, said_parts, joined_in, said_in, time_of, time_size, zone_in}
-use Rattle.zone_tzif_core.specs.Denotes.{IsHeader, IsName, IsKind, AreKinds, no_kind, a_kind, AreShifts, no_shift, a_shift, IsBlock, IsZoneFile, Says, zone_file, old_file}
-use Rattle.zone_tzif_core.specs.declared.header.Header.{Header}
+use Rattle.zone_tzif_core.specs.{Denotes.{IsHeader, IsName, IsKind, AreKinds, no_kind, a_kind, AreShifts, no_shift, a_shift, IsBlock, IsZoneFile, Says, zone_file, old_file}, declared.header.Header.{Header}}
 
 pub cut_again : (n : ℕ) (front rest : List ℕ) → length front ≡ n → cut n (front ++ rest) ≡ Some (front, rest)
 unfolding cut

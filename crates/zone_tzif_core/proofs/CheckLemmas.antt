@@ -1,19 +1,10 @@
 -- A test of what items show.
-use Rattle.std.proofs.Common.{◌≡◌, ℕ, ◌<◌, ◌≤◌, ◌^◌, ℤ, Bool, true, false, ◌&&◌, Some, List, [], ◌∷◌, ◌++◌, length, map, get_or, slice_index_or, None, Bor, refl, sym, ap, subst, ◌∙◌, arith, nat_le, append_assoc}
-use Rattle.std.proofs.lemmas.Bool.Decides.{nat_tests}
-use Rattle.std.proofs.lemmas.List.{length-map}
-use Rattle.std.proofs.lemmas.List.Concat.{flat_map_single}
+use Rattle.std.proofs.{Common.{◌≡◌, ℕ, ◌<◌, ◌≤◌, ◌^◌, ℤ, Bool, true, false, ◌&&◌, Some, List, [], ◌∷◌, ◌++◌, length, map, get_or, slice_index_or, None, Bor, refl, sym, ap, subst, ◌∙◌, arith, nat_le, append_assoc}, lemmas.Bool.Decides.{nat_tests}}
+use Rattle.std.proofs.lemmas.List.{length-map, Concat.{flat_map_single}}
 use Rattle.std.specs.List.{list_all, list_any, flat_map}
-use Rattle.zone_tzif_core.specs.Numbers.{eight_bytes}
-use Rattle.zone_tzif_core.specs.Format.{is_one_line}
-use Rattle.zone_tzif_core.specs.Shown.{kind_shown, kinds_seen, names_seen, shifts_shown, zone_shown}
-use Rattle.zone_tzif_core.specs.Tzif.{is_same, kinds_of, names_of, name_bytes, name_place, kind_number, record_bytes, block_bytes, are_times, are_names, first_fault, write_fault, IsCause}
-use Rattle.zone_tzif_core.specs.Collected.{IsTooMany}
-use Rattle.zone_tzif_core.specs.Zones.{KindValue, ZoneValue, is_small}
-use Rattle.zone_tzif_core.specs.declared.values.Kind.{Kind}
-use Rattle.zone_tzif_core.specs.declared.values.TzifZone.{TzifZone}
-use Rattle.zone_tzif_core.specs.declared.values.WriteFault.{WriteFault}
-use Rattle.zone_tzif_core.specs.declared.values.WriteFault.TheVariants.{Times, Types, Names, Offset, Footer, NoMemory}
+use Rattle.zone_tzif_core.specs.{Numbers.{eight_bytes}, Format.{is_one_line}, Shown.{kind_shown, kinds_seen, names_seen, shifts_shown, zone_shown}}
+use Rattle.zone_tzif_core.specs.{Tzif.{is_same, kinds_of, names_of, name_bytes, name_place, kind_number, record_bytes, block_bytes, are_times, are_names, first_fault, write_fault, IsCause}, Collected.{IsTooMany}, Zones.{KindValue, ZoneValue, is_small}}
+use Rattle.zone_tzif_core.specs.declared.values.{Kind.{Kind}, TzifZone.{TzifZone}, WriteFault.{WriteFault}, WriteFault.TheVariants.{Times, Types, Names, Offset, Footer, NoMemory}}
 use Rattle.zone_tzif_core.proofs.WrittenLemmas.{checks, kind_among, name_among, place_small}
 
 pub all_seen : {A B : Type 0} (test : A → Bool) (view : B → A) (items : List B) → list_all test (map view items) ≡ list_all (λ item. test (view item)) items

@@ -1,10 +1,7 @@
 -- A block whose parts are all there, and one whose parts aren't.
-use Rattle.std.proofs.Common.{◌≡◌, ℕ, ◌+◌, ◌*◌, ◌-◌, ◌<◌, ◌≤◌, Bool, true, List, length, take, drop, Option, Some, None, option_map, option_and_then, refl, ap, ◌∙◌, arith, nat_le, length-append, length-drop}
-use Rattle.std.proofs.lemmas.Bool.Decides.{nat_tests}
+use Rattle.std.proofs.{Common.{◌≡◌, ℕ, ◌+◌, ◌*◌, ◌-◌, ◌<◌, ◌≤◌, Bool, true, List, length, take, drop, Option, Some, None, option_map, option_and_then, refl, ap, ◌∙◌, arith, nat_le, length-append, length-drop}, lemmas.Bool.Decides.{nat_tests}}
 use Rattle.std.proofs.lemmas.List.{take_all}
-use Rattle.zone_tzif_core.specs.Reading.{Cuts, cut, block_in, end_in, time_size}
-use Rattle.zone_tzif_core.specs.declared.header.Header.{Header}
-use Rattle.zone_tzif_core.proofs.FoundLemmas.{block_found}
+use Rattle.zone_tzif_core.{specs.Reading.{Cuts, cut, block_in, end_in, time_size}, specs.declared.header.Header.{Header}, proofs.FoundLemmas.{block_found}}
 
 -- some part wants bytes
 pub block_short : (wide : Bool) (h : Header) (bytes : List ℕ) (size : ℕ) → size ≡ time_size wide * h.time

@@ -1,11 +1,6 @@
 -- The distinct items so far, and those of what is left.
-use Rattle.std.proofs.Common.{◌≡◌, ℕ, ◌+◌, ◌<◌, ◌≤◌, List, [], ◌∷◌, ◌++◌, length, drop, map, get_or, sym, ap, ◌∙◌, refl, Bool, true, false, cond, ◌||◌, arith, length-append}
-use Rattle.std.specs.List.{list_any}
-use Rattle.std.proofs.lemmas.List.{drop_more, drop_all, map-append}
-use Rattle.zone_tzif_core.specs.Collected.{IsTooMany}
-use Rattle.zone_tzif_core.specs.Tzif.{added, each_once}
-use Rattle.zone_tzif_core.specs.declared.values.WriteFault.{WriteFault}
-use Rattle.zone_tzif_core.specs.declared.values.WriteFault.TheVariants.{Times, Types, Names, Offset, Footer, NoMemory}
+use Rattle.std.{proofs.Common.{◌≡◌, ℕ, ◌+◌, ◌<◌, ◌≤◌, List, [], ◌∷◌, ◌++◌, length, drop, map, get_or, sym, ap, ◌∙◌, refl, Bool, true, false, cond, ◌||◌, arith, length-append}, specs.List.{list_any}, proofs.lemmas.List.{drop_more, drop_all, map-append}}
+use Rattle.zone_tzif_core.specs.{Collected.{IsTooMany}, Tzif.{added, each_once}, declared.values.WriteFault.{WriteFault}, declared.values.WriteFault.TheVariants.{Times, Types, Names, Offset, Footer, NoMemory}}
 
 -- a test of what items show
 pub any_seen : {A B : Type 0} (test : A → Bool) (view : B → A) (items : List B) → list_any test (map view items) ≡ list_any (λ item. test (view item)) items

@@ -1,18 +1,8 @@
 -- A file is read as what it denotes, or says.
-use Rattle.std.proofs.Common.{◌≡◌, ℕ, true, option_map, MatchOption, Bor, List, Option, Some, None, Result, Ok, Err, refl, sym, ◌∙◌, arith}
-use Rattle.std.proofs.lemmas.Bool.Decides.{nat_tests}
-use Rattle.std.proofs.lemmas.Option.{same_Some, none-some}
-use Rattle.zone_tzif_core.specs.Denotes.{Denotes, Says, zone_file}
-use Rattle.zone_tzif_core.specs.Format.{suits}
-use Rattle.zone_tzif_core.specs.Reading.{said_in, zone_in}
-use Rattle.zone_tzif_core.specs.Shown.{ReadsAs, TellsExactly}
-use Rattle.zone_tzif_core.specs.ZoneFiles.{HasFooter}
-use Rattle.zone_tzif_core.specs.Zones.{ZoneValue}
-use Rattle.zone_tzif_core.specs.declared.header.Header.{Header}
-use Rattle.zone_tzif_core.specs.declared.values.ReadFault.{ReadFault}
+use Rattle.std.proofs.{Common.{◌≡◌, ℕ, true, option_map, MatchOption, Bor, List, Option, Some, None, Result, Ok, Err, refl, sym, ◌∙◌, arith}, lemmas.Bool.Decides.{nat_tests}, lemmas.Option.{same_Some, none-some}}
+use Rattle.zone_tzif_core.specs.{Denotes.{Denotes, Says, zone_file}, Format.{suits}, Reading.{said_in, zone_in}, Shown.{ReadsAs, TellsExactly}, ZoneFiles.{HasFooter}, Zones.{ZoneValue}, declared.header.Header.{Header}, declared.values.ReadFault.{ReadFault}}
 use Rattle.zone_tzif_core.specs.declared.values.ReadFault.TheVariants.{Refused, NoMemory}
-use Rattle.zone_tzif_core.proofs.AgainLemmas.{denoted_again, said_again}
-use Rattle.zone_tzif_core.proofs.FoundLemmas.{denoted_found, said_found}
+use Rattle.zone_tzif_core.proofs.{AgainLemmas.{denoted_again, said_again}, FoundLemmas.{denoted_found, said_found}}
 
 -- a value is there exactly where a relation holds of it
 pub record IsThe (Is : ZoneValue → Type 0) (value : Option ZoneValue) : Type 0 where

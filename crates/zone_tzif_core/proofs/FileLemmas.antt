@@ -1,16 +1,9 @@
 -- Kinds that are kept once, and changes by their numbers.
-use Rattle.std.proofs.Common.{◌≡◌, ℕ, zero, suc, ◌+◌, ◌<◌, ◌≤◌, ℤ, true, false, List, [], ◌∷◌, ◌++◌, length, map, take, drop, get_or, Some, None, slice_get, refl, sym, ap, ◌∙◌, arith, length-append, append-nil}
-use Rattle.std.proofs.lemmas.List.{take_at, drop_at}
-use Rattle.std.proofs.lemmas.Option.{none-some}
-use Rattle.std.proofs.lemmas.Simd.{map-map}
+use Rattle.std.proofs.{Common.{◌≡◌, ℕ, zero, suc, ◌+◌, ◌<◌, ◌≤◌, ℤ, true, false, List, [], ◌∷◌, ◌++◌, length, map, take, drop, get_or, Some, None, slice_get, refl, sym, ap, ◌∙◌, arith, length-append, append-nil}, lemmas.List.{take_at, drop_at}}
+use Rattle.std.proofs.lemmas.{Option.{none-some}, Simd.{map-map}, Str.{is_utf8-from_IsUtf8}}
 use Rattle.std.specs.Str.{IsUtf8, is_utf8}
-use Rattle.std.proofs.lemmas.Str.{is_utf8-from_IsUtf8}
-use Rattle.zone_tzif_core.specs.Denotes.{IsName}
-use Rattle.zone_tzif_core.specs.Reading.{Cuts, kind_in, kinds_in, shifts_in, joined_in}
-use Rattle.zone_tzif_core.specs.Stored.{stored_kind, stored_name, IsStored}
-use Rattle.zone_tzif_core.specs.ZoneFiles.{change_with, changes_with, file_with, kind_numbered, unnumbered}
-use Rattle.zone_tzif_core.specs.Zones.{KindValue, ZoneValue, go_up, rises}
-use Rattle.zone_tzif_core.specs.declared.stored.Stored.{Stored}
+use Rattle.zone_tzif_core.specs.{Denotes.{IsName}, Reading.{Cuts, kind_in, kinds_in, shifts_in, joined_in}, Stored.{stored_kind, stored_name, IsStored}, ZoneFiles.{change_with, changes_with, file_with, kind_numbered, unnumbered}}
+use Rattle.zone_tzif_core.specs.{Zones.{KindValue, ZoneValue, go_up, rises}, declared.stored.Stored.{Stored}}
 use Rattle.zone_tzif_core.proofs.FoundLemmas.{named_found}
 
 -- the item at a place, and none past the end

@@ -1,20 +1,11 @@
 -- What is read from a file is what it denotes.
 use Rattle.std.proofs.Common.{◌≡◌, ℕ, zero, suc, ◌+◌, ◌-◌, ◌*◌, ◌<◌, ◌≤◌, ℤ, Bool, true, false, cond, not, ◌&&◌, List, [], ◌∷◌, ◌++◌, length, take, drop, get_or, Option, Some, None, option_map, option_and_then, slice_get, slice_range, refl, sym, ap, subst, ◌∙◌, arith, nat_eq, nat_le, nat_lt, append_assoc, append-nil, ltb-true, length-drop, take_while}
-use Rattle.std.proofs.lemmas.Bool.{and_parts}
-use Rattle.std.proofs.lemmas.Bool.Decides.{nat_tests}
-use Rattle.std.proofs.lemmas.List.{take-append-drop, length-take-le, nil_from_length, drop_more, drop_all}
-use Rattle.std.proofs.lemmas.List.Sums.{prefix_len_stops, take_while-cons}
-use Rattle.std.proofs.lemmas.Option.{cond_some, same_Some}
-use Rattle.std.proofs.lemmas.Str.{IsUtf8-from_is_utf8}
+use Rattle.std.proofs.lemmas.{Bool.{and_parts}, Bool.Decides.{nat_tests}, List.{take-append-drop, length-take-le, nil_from_length, drop_more, drop_all}, List.Sums.{prefix_len_stops, take_while-cons}, Option.{cond_some, same_Some}, Str.{IsUtf8-from_is_utf8}}
 use Rattle.std.proofs.Math.Nat.{mul-zero}
-use Rattle.std.specs.List.{list_all, prefix_len}
-use Rattle.std.specs.Str.{IsUtf8, is_utf8}
-use Rattle.zone_tzif_core.specs.Zones.{KindValue, ZoneValue, is_small, rises}
-use Rattle.zone_tzif_core.specs.Numbers.{four_of}
-use Rattle.zone_tzif_core.specs.Format.{begins_well, block_len, is_only, suits, is_one_line}
+use Rattle.std.specs.{List.{list_all, prefix_len}, Str.{IsUtf8, is_utf8}}
+use Rattle.zone_tzif_core.specs.{Zones.{KindValue, ZoneValue, is_small, rises}, Numbers.{four_of}, Format.{begins_well, block_len, is_only, suits, is_one_line}}
 use Rattle.zone_tzif_core.specs.Reading.{Cuts, cut, header_at, text_in, between, end_in, footer_in, before_zero, name_in, kind_in, kinds_in, shifts_in, block_in, second_in, parts_in, said_parts, joined_in, said_in, time_of, time_size, zone_in}
-use Rattle.zone_tzif_core.specs.Denotes.{IsHeader, IsName, IsKind, AreKinds, no_kind, a_kind, AreShifts, no_shift, a_shift, IsZoneFile, Says, zone_file, old_file}
-use Rattle.zone_tzif_core.specs.declared.header.Header.{Header}
+use Rattle.zone_tzif_core.specs.{Denotes.{IsHeader, IsName, IsKind, AreKinds, no_kind, a_kind, AreShifts, no_shift, a_shift, IsZoneFile, Says, zone_file, old_file}, declared.header.Header.{Header}}
 use Rattle.zone_tzif_core.proofs.AgainLemmas.{IsRead}
 
 pub bind_some : {A B : Type 0} (f : A → Option B) (o : Option A) (y : B) → option_and_then f o ≡ Some y → (x : A) × (o ≡ Some x) × (f x ≡ Some y)

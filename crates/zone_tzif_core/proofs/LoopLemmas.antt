@@ -1,12 +1,7 @@
 -- What the loops read so far, and what is left.
 use Rattle.std.proofs.Common.{◌≡◌, ℕ, suc, ◌+◌, ◌-◌, ◌*◌, ◌<◌, ◌≤◌, ℤ, int_lt, Bool, true, false, ◌&&◌, List, [], ◌∷◌, ◌++◌, length, map, take, drop, get_or, Option, Some, None, option_map, option_and_then, slice_get, refl, sym, ap, ◌∙◌, arith, add-one, append_assoc, append-nil, length-drop}
-use Rattle.std.proofs.lemmas.List.{map-append, drop_more, drop-drop, get_or-map, length-map}
-use Rattle.std.proofs.Math.Nat.{mul-suc}
-use Rattle.zone_tzif_core.specs.Zones.{KindValue, go_up}
-use Rattle.zone_tzif_core.specs.ZoneFiles.{change_with, changes_with, kind_numbered}
-use Rattle.zone_tzif_core.specs.Reading.{kind_in, kinds_in, shifts_in, time_of, time_size}
-use Rattle.zone_tzif_core.specs.Shown.{Faults}
-use Rattle.zone_tzif_core.specs.declared.values.ReadFault.{ReadFault}
+use Rattle.std.proofs.{lemmas.List.{map-append, drop_more, drop-drop, get_or-map, length-map}, Math.Nat.{mul-suc}}
+use Rattle.zone_tzif_core.specs.{Zones.{KindValue, go_up}, ZoneFiles.{change_with, changes_with, kind_numbered}, Reading.{kind_in, kinds_in, shifts_in, time_of, time_size}, Shown.{Faults}, declared.values.ReadFault.{ReadFault}}
 use Rattle.zone_tzif_core.specs.declared.values.ReadFault.TheVariants.{Refused, NoMemory}
 
 -- one more item is found

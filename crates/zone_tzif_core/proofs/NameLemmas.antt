@@ -1,6 +1,5 @@
 -- What holds of each item of a list, and of one more.
-use Rattle.std.proofs.Common.{◌≡◌, ℕ, zero, suc, List, [], ◌∷◌, ◌++◌, length, Option, Some, None, slice_get, sym, ap, ◌∙◌, subst}
-use Rattle.std.proofs.lemmas.Option.{none-some}
+use Rattle.std.proofs.{Common.{◌≡◌, ℕ, zero, suc, List, [], ◌∷◌, ◌++◌, length, Option, Some, None, slice_get, sym, ap, ◌∙◌, subst}, lemmas.Option.{none-some}}
 
 same : {X : Type 0} (x y : X) → Some x ≡ Some y → x ≡ y
 same x y e = ap (unwrap_or x) e

@@ -1,16 +1,10 @@
 -- Parts that pass have a value, and others have none.
 use Rattle.std.proofs.Common.{◌≡◌, ℕ, zero, suc, ◌+◌, ◌-◌, ◌*◌, ◌<◌, ◌≤◌, ℤ, int_lt, Bool, true, false, cond, ◌&&◌, List, [], ◌∷◌, length, map, take, drop, get_or, Option, Some, None, is_some, option_map, option_and_then, slice_get, refl, sym, ap, ◌∙◌, arith, length-drop, nat_le, nat_lt}
-use Rattle.std.proofs.lemmas.Bool.Decides.{nat_tests}
-use Rattle.std.proofs.lemmas.List.{drop-drop}
-use Rattle.std.proofs.lemmas.Option.{cond_some, same_Some}
+use Rattle.std.proofs.lemmas.{Bool.Decides.{nat_tests}, List.{drop-drop}, Option.{cond_some, same_Some}}
 use Rattle.std.specs.List.{list_all}
-use Rattle.zone_tzif_core.specs.Check.{passes, times_in}
-use Rattle.zone_tzif_core.specs.Reading.{Cuts, kind_in, kinds_in, shifts_in, joined_in, said_in, said_parts, time_of, time_size}
-use Rattle.zone_tzif_core.specs.Shown.{FaultsExactly}
-use Rattle.zone_tzif_core.specs.Zones.{KindValue, ZoneValue, go_up, rises}
+use Rattle.zone_tzif_core.specs.{Check.{passes, times_in}, Reading.{Cuts, kind_in, kinds_in, shifts_in, joined_in, said_in, said_parts, time_of, time_size}, Shown.{FaultsExactly}, Zones.{KindValue, ZoneValue, go_up, rises}}
 use Rattle.zone_tzif_core.specs.declared.values.ReadFault.TheVariants.{Refused, NoMemory}
-use Rattle.zone_tzif_core.proofs.FoundLemmas.{bind_some}
-use Rattle.zone_tzif_core.proofs.LoopLemmas.{RiseFrom, up_short, up_step}
+use Rattle.zone_tzif_core.proofs.{FoundLemmas.{bind_some}, LoopLemmas.{RiseFrom, up_short, up_step}}
 
 -- two answers are there where each is
 both : {A B C : Type 0} (f : A → B → C) (a : Option A) (b : Option B) → is_some (option_and_then (λ x. option_and_then (λ y. Some (f x y)) b) a) ≡ (is_some a && is_some b)

@@ -2,12 +2,8 @@
 use Rattle.std.proofs.Common.{◌≡◌, ℕ, ◌+◌, ◌<◌, ◌≤◌, List, [], ◌∷◌, ◌++◌, length, drop, map, get_or, refl, sym, ap, subst, ◌∙◌, append_assoc, append-nil, Bool, true, false, not, cond, Some, None, Bor, position, bytes_eq, ◌||◌, arith, length-append, lt-ltb}
 use Rattle.std.proofs.lemmas.Bool.{false≢true, cond-true}
 use borrow.Author.Count.{below_more}
-use Rattle.zone_tzif_core.proofs.DistinctLemmas.{any_seen}
-use Rattle.std.proofs.lemmas.Option.{cond_some, none-some}
-use Rattle.zone_tzif_core.specs.Shown.{names_seen}
-use Rattle.zone_tzif_core.specs.Tzif.{name_place, name_bytes}
-use Rattle.std.proofs.lemmas.List.{drop_more, drop_all, get_or-map, length-map}
-use Rattle.std.specs.List.{flat_map, list_any, position_or_len}
+use Rattle.zone_tzif_core.{proofs.DistinctLemmas.{any_seen}, specs.Shown.{names_seen}, specs.Tzif.{name_place, name_bytes}}
+use Rattle.std.{proofs.lemmas.Option.{cond_some, none-some}, proofs.lemmas.List.{drop_more, drop_all, get_or-map, length-map}, specs.List.{flat_map, list_any, position_or_len}}
 
 -- the bytes so far, and those that the items left give, are what all give
 abbrev pub PutSoFar : {A B : Type 0} → (B → A) → (A → List ℕ) → List ℕ → List B → ℕ → List ℕ → Type 0

@@ -1,10 +1,6 @@
 -- Why a value is not written, and the offset in force.
-use Rattle.std.proofs.Common.{◌≡◌, ℕ, zero, suc, ◌+◌, ℤ, pos, negsuc, true, false, List, [], ◌∷◌, map, replicate, Some, None, refl}
-use Rattle.std.specs.Prelude.{codes}
-use Rattle.zone_tzif_core.specs.Totals.{file_total_at}
-use Rattle.zone_tzif_core.specs.Tzif.{kinds_of, names_of, name_bytes, are_times, are_names, first_fault, write_fault}
-use Rattle.zone_tzif_core.specs.Zones.{KindValue, ZoneValue}
-use Rattle.zone_tzif_core.specs.declared.values.WriteFault.TheVariants.{Times, Types, Names, Offset, Footer}
+use Rattle.std.{proofs.Common.{◌≡◌, ℕ, zero, suc, ◌+◌, ℤ, pos, negsuc, true, false, List, [], ◌∷◌, map, replicate, Some, None, refl}, specs.Prelude.{codes}}
+use Rattle.zone_tzif_core.specs.{Totals.{file_total_at}, Tzif.{kinds_of, names_of, name_bytes, are_times, are_names, first_fault, write_fault}, Zones.{KindValue, ZoneValue}, declared.values.WriteFault.TheVariants.{Times, Types, Names, Offset, Footer}}
 use Rattle.zone_tzif_core.proofs.WorkedFiles.{a_kind, changing}
 
 abbrev at : ℤ → ℤ × KindValue

@@ -1,14 +1,10 @@
 -- Files at worked values, which Python's `zoneinfo` reads as written here.
 use Rattle.std.proofs.Common.{◌≡◌, ℕ, ◌+◌, ℤ, pos, negsuc, Bool, true, false, List, [], ◌∷◌, ◌++◌, map, take, drop, replicate, Some, refl}
 use lib.Utf8.{encode}
-use Rattle.std.specs.Prelude.{codes}
-use Rattle.std.specs.Str.{is_utf8, chars}
-use Rattle.zone_tzif_core.specs.Format.{header_of, begins_well, block_len, suits}
-use Rattle.zone_tzif_core.specs.Numbers.{count_of, four_of, eight_of, count_bytes, four_bytes, eight_bytes}
+use Rattle.std.specs.{Prelude.{codes}, Str.{is_utf8, chars}}
+use Rattle.zone_tzif_core.specs.{Format.{header_of, begins_well, block_len, suits}, Numbers.{count_of, four_of, eight_of, count_bytes, four_bytes, eight_bytes}}
 use Rattle.zone_tzif_core.specs.Reading.{cut, header_at, text_in, between, footer_in, block_in, second_in, parts_in, before_zero, name_in, kind_in, kinds_in, shifts_in, joined_in, zone_in}
-use Rattle.zone_tzif_core.specs.Tzif.{kinds_of, names_of, name_bytes, name_place, kind_number, header_bytes, record_bytes, block_bytes, tzif, tzif_by}
-use Rattle.zone_tzif_core.specs.Zones.{KindValue, ZoneValue}
-use Rattle.zone_tzif_core.specs.declared.values.Version.TheVariants.{Three}
+use Rattle.zone_tzif_core.specs.{Tzif.{kinds_of, names_of, name_bytes, name_place, kind_number, header_bytes, record_bytes, block_bytes, tzif, tzif_by}, Zones.{KindValue, ZoneValue}, declared.values.Version.TheVariants.{Three}}
 
 abbrev pub a_kind : ℤ → Bool → List ℕ → KindValue
 a_kind utoff is_dst name = record { utoff = utoff; is_dst = is_dst; name = name }

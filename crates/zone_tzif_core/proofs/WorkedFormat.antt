@@ -1,9 +1,6 @@
 -- The words of the format at worked rows: RFC 8536, sections 3.1 and 3.3.
 use Rattle.std.proofs.Common.{◌≡◌, ℕ, ℤ, true, false, List, [], ◌∷◌, ◌++◌, length, map, codes, refl}
-use Rattle.zone_tzif_core.specs.Format.{begins_well, block_len, is_one_line, suits}
-use Rattle.zone_tzif_core.specs.Tzif.{are_times}
-use Rattle.zone_tzif_core.specs.Zones.{KindValue, rises}
-use Rattle.zone_tzif_core.specs.declared.header.Header.{Header}
+use Rattle.zone_tzif_core.specs.{Format.{begins_well, block_len, is_one_line, suits}, Tzif.{are_times}, Zones.{KindValue, rises}, declared.header.Header.{Header}}
 
 -- each of the four bytes counts, and what follows them doesn't
 magics : map begins_well

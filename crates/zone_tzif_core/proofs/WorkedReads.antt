@@ -1,19 +1,11 @@
 -- Which changed files are read, and as what.
 use Rattle.std.proofs.Common.{◌≡◌, ℕ, pos, negsuc, true, false, List, [], ◌∷◌, ◌++◌, map, take, drop, replicate, Option, Some, None, option_map, Err, refl}
 use lib.Utf8.{encode}
-use Rattle.std.specs.Prelude.{codes}
-use Rattle.std.specs.Str.{is_utf8, chars}
-use Rattle.zone_tzif_core.specs.Denotes.{Denotes, Says}
-use Rattle.zone_tzif_core.specs.Format.{header_of, begins_well, block_len, is_only, suits}
-use Rattle.zone_tzif_core.specs.Numbers.{count_of, four_of, eight_of}
-use Rattle.zone_tzif_core.specs.Reading.{cut, header_at, text_in, between, footer_in, block_in, second_in, parts_in, before_zero, name_in, kind_in, kinds_in, shifts_in, joined_in, said_in, said_parts, zone_in}
-use Rattle.zone_tzif_core.specs.Profile.{ReadsWritten}
-use Rattle.zone_tzif_core.specs.Shown.{Reads}
-use Rattle.zone_tzif_core.specs.ZoneFiles.{ReadsFile}
-use Rattle.zone_tzif_core.specs.Zones.{KindValue}
-use Rattle.zone_tzif_core.specs.declared.values.ReadFault.TheVariants.{NoMemory}
-use Rattle.zone_tzif_core.proofs.ExactLemmas.{denoted, refused, what_is_said}
-use Rattle.zone_tzif_core.proofs.WorkedFiles.{a_kind, changing, fixed, fixed_file, changing_file, head, patched, of_version, standard}
+use Rattle.std.specs.{Prelude.{codes}, Str.{is_utf8, chars}}
+use Rattle.zone_tzif_core.specs.{Denotes.{Denotes, Says}, Format.{header_of, begins_well, block_len, is_only, suits}, Numbers.{count_of, four_of, eight_of}}
+use Rattle.zone_tzif_core.specs.{Reading.{cut, header_at, text_in, between, footer_in, block_in, second_in, parts_in, before_zero, name_in, kind_in, kinds_in, shifts_in, joined_in, said_in, said_parts, zone_in}, Profile.{ReadsWritten}, Shown.{Reads}}
+use Rattle.zone_tzif_core.specs.{ZoneFiles.{ReadsFile}, Zones.{KindValue}, declared.values.ReadFault.TheVariants.{NoMemory}}
+use Rattle.zone_tzif_core.proofs.{ExactLemmas.{denoted, refused, what_is_said}, WorkedFiles.{a_kind, changing, fixed, fixed_file, changing_file, head, patched, of_version, standard}}
 
 abbrev first_read : List ℕ → Option KindValue
 first_read file = option_map (λ zone. zone.first) (zone_in 52 file)

@@ -1,30 +1,13 @@
 -- The file that is written for a value denotes it.
 use Rattle.std.proofs.Common.{◌≡◌, ℕ, zero, suc, ◌+◌, ◌<◌, ◌≤◌, ◌^◌, ℤ, pos, neg_ℤ, Bool, true, false, cond, not, ◌&&◌, ◌||◌, List, [], ◌∷◌, ◌++◌, length, map, get_or, replicate, Option, Some, None, slice_get, refl, sym, ap, subst, ◌∙◌, arith, nat_eq, nat_le, append_assoc, append-nil, length-append, bytes_eq, int_le, find, FitsSigned, to_z, of_z}
-use Rattle.std.proofs.lemmas.Bool.{and_parts, and_from, or_left, or_right, not-false, leb-true, false≢true}
-use Rattle.std.proofs.lemmas.Bool.Decides.{nat_tests, Decides-int_eq}
-use Rattle.std.proofs.lemmas.Int.{ints, to_z-of_z}
-use Rattle.std.proofs.lemmas.List.{length-map, get_or-map}
-use Rattle.std.proofs.lemmas.List.Sums.{AllPass-from_list_all}
-use Rattle.std.proofs.lemmas.Option.{slice_get_within}
-use Rattle.std.proofs.lemmas.List.Elements.{All-append}
-use Rattle.std.proofs.lemmas.List.Folds.{list_any-append, find_at}
-use Rattle.std.proofs.lemmas.Nat.{from_be_bytes-to_be_bytes_4, from_be_bytes-to_be_bytes_8}
-use Rattle.std.proofs.lemmas.Slice.Eq.{bytes_eq-Decides}
-use Rattle.std.specs.Int.{w32, w64}
-use Rattle.std.specs.Bool.{beq}
-use Rattle.std.specs.Ordering.{int_eq}
+use Rattle.std.proofs.lemmas.{Bool.{and_parts, and_from, or_left, or_right, not-false, leb-true, false≢true}, Bool.Decides.{nat_tests, Decides-int_eq}, Int.{ints, to_z-of_z}, List.{length-map, get_or-map}, List.Sums.{AllPass-from_list_all}}
+use Rattle.std.proofs.lemmas.{Option.{slice_get_within}, List.Elements.{All-append}, List.Folds.{list_any-append, find_at}, Nat.{from_be_bytes-to_be_bytes_4, from_be_bytes-to_be_bytes_8}, Slice.Eq.{bytes_eq-Decides}}
 use Rattle.std.proofs.Math.Facts.{Fits-of_z, Fits-lt-pow}
-use Rattle.std.specs.List.{list_all, list_any, flat_map}
-use Rattle.std.specs.Str.{IsUtf8}
-use Rattle.zone_tzif_core.specs.Zones.{KindValue, ZoneValue, greatest_utoff, is_small, rises}
-use Rattle.zone_tzif_core.specs.Numbers.{count_of, four_of, eight_of, count_bytes, four_bytes, eight_bytes}
-use Rattle.zone_tzif_core.specs.Format.{header_of, begins_well, block_len, suits, is_one_line}
+use Rattle.std.specs.{Int.{w32, w64}, Bool.{beq}, Ordering.{int_eq}, List.{list_all, list_any, flat_map}, Str.{IsUtf8}}
+use Rattle.zone_tzif_core.specs.{Zones.{KindValue, ZoneValue, greatest_utoff, is_small, rises}, Numbers.{count_of, four_of, eight_of, count_bytes, four_bytes, eight_bytes}, Format.{header_of, begins_well, block_len, suits, is_one_line}}
 use Rattle.zone_tzif_core.specs.Denotes.{IsHeader, IsKind, AreKinds, no_kind, a_kind, AreShifts, no_shift, a_shift, IsBlock, Denotes}
 use Rattle.zone_tzif_core.specs.Tzif.{is_same, added, each_once, kinds_of, names_of, name_bytes, name_place, kind_number, version_byte, header_bytes, record_bytes, block_bytes, tzif_by, are_times, are_names, write_fault, IsValue, IsTzif, IsTzifBy}
-use Rattle.zone_tzif_core.specs.declared.header.Header.{Header}
-use Rattle.zone_tzif_core.specs.declared.values.Version.{Version}
-use Rattle.zone_tzif_core.specs.declared.values.Version.TheVariants.{Two, Three}
-use Rattle.zone_tzif_core.specs.declared.values.WriteFault.{WriteFault}
+use Rattle.zone_tzif_core.specs.declared.{header.Header.{Header}, values.Version.{Version}, values.Version.TheVariants.{Two, Three}, values.WriteFault.{WriteFault}}
 
 small_four : (x : ℤ) → FitsSigned w32 x → of_z w32 x < 2 ^ 32
 small_four x fits = Fits-lt-pow (Fits-of_z fits)

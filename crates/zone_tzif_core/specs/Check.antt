@@ -1,8 +1,6 @@
 -- Whether parts have a value.
-use Rattle.std.specs.Prelude.{ℕ, zero, suc, ℤ, Bool, ◌&&◌, List, [], ◌∷◌, length, take, drop, is_some, nat_le, nat_lt}
-use Rattle.std.specs.List.{list_all}
-use Rattle.zone_tzif_core.specs.Reading.{Cuts, kinds_in, time_of, time_size}
-use Rattle.zone_tzif_core.specs.Zones.{go_up}
+use Rattle.std.specs.{Prelude.{ℕ, zero, suc, ℤ, Bool, ◌&&◌, List, [], ◌∷◌, length, take, drop, is_some, nat_le, nat_lt}, List.{list_all}}
+use Rattle.zone_tzif_core.specs.{Reading.{Cuts, kinds_in, time_of, time_size}, Zones.{go_up}}
 
 -- so many times
 unfoldable pub times_in : Bool → ℕ → List ℕ → List ℤ

@@ -1,8 +1,6 @@
 -- Kinds and changes that are tested while they are collected.
 use Rattle.std.specs.Prelude.{◌≡◌, ℕ, ◌≤◌, ◌<◌, List, length, Result, Ok, Err}
-use Rattle.zone_tzif_core.specs.Zones.{KindValue}
-use Rattle.zone_tzif_core.specs.declared.values.WriteFault.{WriteFault}
-use Rattle.zone_tzif_core.specs.declared.values.WriteFault.TheVariants.{Types, NoMemory}
+use Rattle.zone_tzif_core.specs.{Zones.{KindValue}, declared.values.WriteFault.{WriteFault}, declared.values.WriteFault.TheVariants.{Types, NoMemory}}
 
 -- refused only where there are more than 256, or for want of memory
 abbrev pub IsTooMany : WriteFault → ℕ → Type 0

@@ -1,11 +1,6 @@
 -- What a file says, part by part.
-use Rattle.std.specs.Prelude.{◌≡◌, ℕ, ◌+◌, ◌≤◌, ◌==◌, not, ℤ, true, List, [], ◌∷◌, ◌++◌, length, Some, slice_get, slice_index}
-use Rattle.std.specs.List.{list_all}
-use Rattle.std.specs.Str.{IsUtf8}
-use Rattle.zone_tzif_core.specs.Zones.{KindValue, ZoneValue, is_small, rises}
-use Rattle.zone_tzif_core.specs.Numbers.{four_of, eight_of}
-use Rattle.zone_tzif_core.specs.Format.{header_of, begins_well, block_len, suits, is_only, is_one_line}
-use Rattle.zone_tzif_core.specs.declared.header.Header.{Header}
+use Rattle.std.specs.{Prelude.{◌≡◌, ℕ, ◌+◌, ◌≤◌, ◌==◌, not, ℤ, true, List, [], ◌∷◌, ◌++◌, length, Some, slice_get, slice_index}, List.{list_all}, Str.{IsUtf8}}
+use Rattle.zone_tzif_core.specs.{Zones.{KindValue, ZoneValue, is_small, rises}, Numbers.{four_of, eight_of}, Format.{header_of, begins_well, block_len, suits, is_only, is_one_line}, declared.header.Header.{Header}}
 
 -- 44 bytes that begin with `TZif`; the 15 bytes after the version are any
 pub record IsHeader (bytes : List ℕ) (says : Header) : Type 0 where

@@ -1,8 +1,6 @@
 -- The words of the format: what a header says, and how much follows it.
-use Rattle.std.specs.Prelude.{ℕ, ◌+◌, ◌*◌, ◌==◌, Bool, ◌&&◌, ◌||◌, not, List, drop, nat_le, slice_index}
-use Rattle.std.specs.List.{list_all}
-use Rattle.zone_tzif_core.specs.declared.header.Header.{Header}
-use Rattle.zone_tzif_core.specs.Numbers.{count_of}
+use Rattle.std.specs.{Prelude.{ℕ, ◌+◌, ◌*◌, ◌==◌, Bool, ◌&&◌, ◌||◌, not, List, drop, nat_le, slice_index}, List.{list_all}}
+use Rattle.zone_tzif_core.specs.{declared.header.Header.{Header}, Numbers.{count_of}}
 
 -- `TZif`
 unfoldable pub begins_well : List ℕ → Bool

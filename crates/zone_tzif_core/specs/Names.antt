@@ -1,6 +1,5 @@
 -- Names that were looked for, by their places.
-use Rattle.std.specs.Prelude.{◌≡◌, ℕ, ◌<◌, List, length, Option, Some, option_map, slice_get}
-use Rattle.std.specs.Borrow.{Bor}
+use Rattle.std.specs.{Prelude.{◌≡◌, ℕ, ◌<◌, List, length, Option, Some, option_map, slice_get}, Borrow.{Bor}}
 use Rattle.zone_tzif_core.specs.Reading.{name_in}
 
 -- each at the first places is the name at its place

@@ -1,12 +1,6 @@
 -- A file beside the one that is written.
 use Rattle.std.specs.Prelude.{ℕ, Bool, true, false, List, Result, Ok, Err}
-use Rattle.zone_tzif_core.specs.Denotes.{Denotes}
-use Rattle.zone_tzif_core.specs.Shown.{zone_shown}
-use Rattle.zone_tzif_core.specs.Tzif.{IsTzif}
-use Rattle.zone_tzif_core.specs.Zones.{ZoneValue}
-use Rattle.zone_tzif_core.specs.declared.values.ReadFault.{ReadFault}
-use Rattle.zone_tzif_core.specs.declared.values.ReadFault.TheVariants.{Refused, NoMemory}
-use Rattle.zone_tzif_core.specs.declared.values.TzifZone.{TzifZone}
+use Rattle.zone_tzif_core.specs.{Denotes.{Denotes}, Shown.{zone_shown}, Tzif.{IsTzif}, Zones.{ZoneValue}, declared.values.ReadFault.{ReadFault}, declared.values.ReadFault.TheVariants.{Refused, NoMemory}, declared.values.TzifZone.{TzifZone}}
 
 -- whether the bytes are what is written for the value, or no memory
 abbrev pub Compares : List ℕ → ZoneValue → Result Bool ReadFault → Type 0

@@ -1,12 +1,7 @@
 -- The parts of a file, as the code cuts them.
 use Rattle.std.specs.Prelude.{◌≡◌, ℕ, zero, suc, ℤ, Bool, true, false, ◌+◌, ◌-◌, ◌*◌, ◌==◌, ◌&&◌, List, [], ◌∷◌, length, take, drop, Option, Some, None, option_map, option_and_then, nat_le, if◌then◌else◌, slice_index, slice_get, slice_range, position}
-use Rattle.std.specs.Str.{is_utf8}
-use Rattle.std.specs.Borrow.{Bor}
-use Rattle.zone_tzif_core.specs.declared.header.Header.{Header}
-use Rattle.zone_tzif_core.specs.declared.parts.Parts.{Parts}
-use Rattle.zone_tzif_core.specs.Format.{begins_well, header_of, block_len, suits, is_only, is_one_line}
-use Rattle.zone_tzif_core.specs.Numbers.{four_of, eight_of}
-use Rattle.zone_tzif_core.specs.Zones.{KindValue, ZoneValue, is_small, rises}
+use Rattle.std.specs.{Str.{is_utf8}, Borrow.{Bor}}
+use Rattle.zone_tzif_core.specs.{declared.header.Header.{Header}, declared.parts.Parts.{Parts}, Format.{begins_well, header_of, block_len, suits, is_only, is_one_line}, Numbers.{four_of, eight_of}, Zones.{KindValue, ZoneValue, is_small, rises}}
 
 infixl 10 ◌>>=◌
 abbrev pub ◌>>=◌ : {A B : Type 0} → Option A → (A → Option B) → Option B

@@ -1,12 +1,6 @@
 -- What the values of the code show.
-use Rattle.std.specs.Borrow.{Bor}
-use Rattle.std.specs.Prelude.{◌≡◌, ℕ, ℤ, true, List, map, Option, Some, None, is_some, Result, Ok, Err, string_bytes}
-use Rattle.zone_tzif_core.specs.Zones.{KindValue, ZoneValue}
-use Rattle.zone_tzif_core.specs.declared.values.Kind.{Kind}
-use Rattle.zone_tzif_core.specs.declared.values.TzifZone.{TzifZone}
-use Rattle.zone_tzif_core.specs.declared.values.ReadFault.{ReadFault}
-use Rattle.zone_tzif_core.specs.declared.values.ReadFault.TheVariants.{Refused, NoMemory}
-use Rattle.zone_tzif_core.specs.declared.kinds.Record.{Record}
+use Rattle.std.specs.{Borrow.{Bor}, Prelude.{◌≡◌, ℕ, ℤ, true, List, map, Option, Some, None, is_some, Result, Ok, Err, string_bytes}}
+use Rattle.zone_tzif_core.specs.{Zones.{KindValue, ZoneValue}, declared.values.Kind.{Kind}, declared.values.TzifZone.{TzifZone}, declared.values.ReadFault.{ReadFault}, declared.values.ReadFault.TheVariants.{Refused, NoMemory}, declared.kinds.Record.{Record}}
 
 abbrev pub kind_shown : Kind → KindValue
 kind_shown kind = record { utoff = kind.utoff; is_dst = kind.is_dst; name = string_bytes kind.name }

@@ -1,8 +1,6 @@
 -- Kinds that are kept by their places among the names of a file.
-use Rattle.std.specs.Prelude.{◌≡◌, ℕ, ◌+◌, ◌≤◌, ◌<◌, ℤ, true, List, length, take, drop, Some, slice_get}
-use Rattle.std.specs.Str.{is_utf8}
-use Rattle.zone_tzif_core.specs.Zones.{KindValue}
-use Rattle.zone_tzif_core.specs.declared.stored.Stored.{Stored}
+use Rattle.std.specs.{Prelude.{◌≡◌, ℕ, ◌+◌, ◌≤◌, ◌<◌, ℤ, true, List, length, take, drop, Some, slice_get}, Str.{is_utf8}}
+use Rattle.zone_tzif_core.specs.{Zones.{KindValue}, declared.stored.Stored.{Stored}}
 
 -- the name is so many bytes from a place on
 abbrev pub stored_name : List ℕ → Stored → List ℕ

@@ -1,16 +1,8 @@
 -- The one file that is written for a value.
 use Rattle.std.specs.Prelude.{◌≡◌, ℕ, ◌+◌, ◌<◌, ◌==◌, not, ℤ, Bool, ◌&&◌, if◌then◌else◌, List, [], ◌∷◌, ◌++◌, length, map, bytes_eq, nat_le, replicate, slice_index_or, IsUtf8, FitsSigned, Option, Some, None, Result, Ok, Err}
-use Rattle.std.specs.List.{list_any, list_all, flat_map, position_or_len}
-use Rattle.std.specs.Bool.{beq}
-use Rattle.std.specs.Int.{w64}
-use Rattle.std.specs.Ordering.{int_eq}
-use Rattle.zone_tzif_core.specs.Zones.{KindValue, ZoneValue, is_small, rises}
-use Rattle.zone_tzif_core.specs.Numbers.{count_bytes, four_bytes, eight_bytes}
-use Rattle.zone_tzif_core.specs.Format.{is_one_line}
-use Rattle.zone_tzif_core.specs.declared.values.Version.{Version}
-use Rattle.zone_tzif_core.specs.declared.values.Version.TheVariants.{Two, Three}
-use Rattle.zone_tzif_core.specs.declared.values.WriteFault.{WriteFault}
-use Rattle.zone_tzif_core.specs.declared.values.WriteFault.TheVariants.{Times, Types, Names, Offset, Footer, NoMemory}
+use Rattle.std.specs.{List.{list_any, list_all, flat_map, position_or_len}, Bool.{beq}, Int.{w64}, Ordering.{int_eq}}
+use Rattle.zone_tzif_core.specs.{Zones.{KindValue, ZoneValue, is_small, rises}, Numbers.{count_bytes, four_bytes, eight_bytes}, Format.{is_one_line}, declared.values.Version.{Version}, declared.values.Version.TheVariants.{Two, Three}}
+use Rattle.zone_tzif_core.specs.declared.values.WriteFault.{WriteFault, TheVariants.{Times, Types, Names, Offset, Footer, NoMemory}}
 
 -- the two kinds are one
 abbrev pub is_same : KindValue → KindValue → Bool

@@ -1,10 +1,6 @@
 -- What is seen of a zone whose kinds are kept once.
 use Rattle.std.specs.Prelude.{◌≡◌, ℕ, ℤ, pos, false, List, [], map, Result, slice_index_or, string_bytes}
-use Rattle.zone_tzif_core.specs.Shown.{ReadsAs}
-use Rattle.zone_tzif_core.specs.Stored.{stored_kind}
-use Rattle.zone_tzif_core.specs.Zones.{KindValue, ZoneValue}
-use Rattle.zone_tzif_core.specs.declared.values.ReadFault.{ReadFault}
-use Rattle.zone_tzif_core.specs.declared.zone_file.ZoneFile.{ZoneFile}
+use Rattle.zone_tzif_core.specs.{Shown.{ReadsAs}, Stored.{stored_kind}, Zones.{KindValue, ZoneValue}, declared.values.ReadFault.{ReadFault}, declared.zone_file.ZoneFile.{ZoneFile}}
 
 -- what a number past all kinds would stand for: no change has one
 abbrev pub unnumbered : KindValue

@@ -1,13 +1,6 @@
 //! Whether there is a zone in a file, and its footer, found without memory.
-ghost use Rattle.std.specs.Prelude.{◌≡◌, ◌*◌, nat_lt, is_some, length, option_map, MatchOption};
-ghost use Rattle.std.specs.List.{list_all};
-ghost use Rattle.zone_tzif_core.specs.Check.{passes, times_in};
-ghost use Rattle.zone_tzif_core.specs.Denotes.{Says};
-ghost use Rattle.zone_tzif_core.specs.Names.{AreNames};
-ghost use Rattle.zone_tzif_core.specs.Reading.{joined_in, kinds_in, parts_shown, said_in, time_size, AreCounted};
-ghost use Rattle.zone_tzif_core.specs.Shown.{FaultsExactly};
-ghost use Rattle.zone_tzif_core.specs.ZoneFiles.{HasFooter};
-ghost use Rattle.zone_tzif_core.specs.Zones.{ZoneValue, go_up};
+ghost use Rattle.std.specs.{Prelude.{◌≡◌, ◌*◌, nat_lt, is_some, length, option_map, MatchOption}, List.{list_all}};
+ghost use Rattle.zone_tzif_core.specs.{Check.{passes, times_in}, Denotes.{Says}, Names.{AreNames}, Reading.{joined_in, kinds_in, parts_shown, said_in, time_size, AreCounted}, Shown.{FaultsExactly}, ZoneFiles.{HasFooter}, Zones.{ZoneValue, go_up}};
 
 use crate::kinds::read_record;
 use crate::names::name_table;

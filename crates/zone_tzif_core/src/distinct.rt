@@ -1,9 +1,6 @@
 //! The distinct kinds and names of a zone.
-ghost use Rattle.std.specs.Prelude.{◌≡◌, ℕ, [], ◌∷◌, ◌++◌, map, bytes_eq, length, IfOk, OnOk, string_bytes};
-ghost use Rattle.std.specs.List.{list_any};
-ghost use Rattle.zone_tzif_core.specs.Tzif.{is_same, added, each_once, kinds_of, names_of};
-ghost use Rattle.zone_tzif_core.specs.Collected.{AreFew, Collects};
-ghost use Rattle.zone_tzif_core.specs.Shown.{kind_shown, kinds_seen, names_seen, zone_shown};
+ghost use Rattle.std.specs.{Prelude.{◌≡◌, ℕ, [], ◌∷◌, ◌++◌, map, bytes_eq, length, IfOk, OnOk, string_bytes}, List.{list_any}};
+ghost use Rattle.zone_tzif_core.specs.{Tzif.{is_same, added, each_once, kinds_of, names_of}, Collected.{AreFew, Collects}, Shown.{kind_shown, kinds_seen, names_seen, zone_shown}};
 
 use crate::values::{Kind, TzifZone, WriteFault};
 use std::alloc::{AllocError, Global};

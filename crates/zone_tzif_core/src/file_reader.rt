@@ -1,12 +1,7 @@
 //! Files as they are looked up.
 ghost use Rattle.std.specs.Prelude.{◌≡◌, ◌*◌, ◌<◌, ◌≤◌, ℕ, List, length, map, option_and_then, option_map, IfOk, IfSome};
-ghost use Rattle.zone_tzif_core.specs.Denotes.{Says};
-ghost use Rattle.zone_tzif_core.specs.Names.{AreNames};
-ghost use Rattle.zone_tzif_core.specs.Reading.{joined_in, kind_in, kinds_in, parts_shown, shifts_in, time_size, AreCounted};
-ghost use Rattle.zone_tzif_core.specs.Shown.{TellsExactly, TellsFound};
-ghost use Rattle.zone_tzif_core.specs.Stored.{stored_kind, AreNumbered, AreStored, IsStored};
-ghost use Rattle.zone_tzif_core.specs.ZoneFiles.{changes_with, file_with, zone_seen, ReadsFile};
-ghost use Rattle.zone_tzif_core.specs.Zones.{KindValue};
+ghost use Rattle.zone_tzif_core.specs.{Denotes.{Says}, Names.{AreNames}, Reading.{joined_in, kind_in, kinds_in, parts_shown, shifts_in, time_size, AreCounted}, Shown.{TellsExactly, TellsFound}, Stored.{stored_kind, AreNumbered, AreStored, IsStored}};
+ghost use Rattle.zone_tzif_core.specs.{ZoneFiles.{changes_with, file_with, zone_seen, ReadsFile}, Zones.{KindValue}};
 
 use crate::check::wanting;
 use crate::kinds::kind;

@@ -1,7 +1,6 @@
 //! A header, and parts of a known length.
 ghost use Rattle.std.specs.Prelude.{◌≡◌, ◌≤◌, length, option_map, IfSome};
-ghost use Rattle.zone_tzif_core.specs.Format.{header_of, begins_well};
-ghost use Rattle.zone_tzif_core.specs.Reading.{cut_as, cut, header_as, header_at};
+ghost use Rattle.zone_tzif_core.specs.{Format.{header_of, begins_well}, Reading.{cut_as, cut, header_as, header_at}};
 
 use crate::numbers::count_at;
 

@@ -1,9 +1,6 @@
 //! The kinds of a block.
 ghost use Rattle.std.specs.Prelude.{◌≡◌, ◌≤◌, length, option_map};
-ghost use Rattle.zone_tzif_core.specs.Zones.{is_small};
-ghost use Rattle.zone_tzif_core.specs.Names.{AreNames};
-ghost use Rattle.zone_tzif_core.specs.Reading.{kind_in};
-ghost use Rattle.zone_tzif_core.specs.Shown.{record_shown, TellsFound};
+ghost use Rattle.zone_tzif_core.specs.{Zones.{is_small}, Names.{AreNames}, Reading.{kind_in}, Shown.{record_shown, TellsFound}};
 
 use crate::names::name_at;
 use crate::numbers::signed_four;

@@ -1,10 +1,6 @@
 //! Laws of the files.
-ghost use Rattle.std.specs.Prelude.{◌≡◌, ◌&&◌, ℕ, List, true};
-ghost use Rattle.std.specs.List.{list_all};
-ghost use Rattle.zone_tzif_core.specs.Denotes.{Denotes, Says};
-ghost use Rattle.zone_tzif_core.specs.Tzif.{IsTzif, IsTzifBy};
-ghost use Rattle.zone_tzif_core.specs.Zones.{ZoneValue, is_small, rises};
-ghost use Rattle.zone_tzif_core.specs.declared.values.Version.{Version};
+ghost use Rattle.std.specs.{Prelude.{◌≡◌, ◌&&◌, ℕ, List, true}, List.{list_all}};
+ghost use Rattle.zone_tzif_core.specs.{Denotes.{Denotes, Says}, Tzif.{IsTzif, IsTzifBy}, Zones.{ZoneValue, is_small, rises}, declared.values.Version.{Version}};
 
 /// A file denotes one value at most.
 pub fn one_reading()

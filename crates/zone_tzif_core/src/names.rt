@@ -1,7 +1,6 @@
 //! The names of a block.
 ghost use Rattle.std.specs.Prelude.{◌≡◌, ◌==◌, ◌≤◌, length, option_map, position, IfSome};
-ghost use Rattle.zone_tzif_core.specs.Names.{AreNames};
-ghost use Rattle.zone_tzif_core.specs.Reading.{before_zero, name_in};
+ghost use Rattle.zone_tzif_core.specs.{Names.{AreNames}, Reading.{before_zero, name_in}};
 
 use crate::header::cut;
 use crate::parts::text;

@@ -1,7 +1,6 @@
 //! The parts of a file.
 ghost use Rattle.std.specs.Prelude.{◌≡◌, ◌*◌, ◌+◌, ◌≤◌, drop, length, option_map, take, IfSome};
-ghost use Rattle.zone_tzif_core.specs.Format.{is_one_line, is_only, is_sound, block_len, suits};
-ghost use Rattle.zone_tzif_core.specs.Reading.{between, block_in, end_in, footer_in, parts_in, parts_shown, said_parts, second_in, text_in, time_of, time_size, AreCounted};
+ghost use Rattle.zone_tzif_core.specs.{Format.{is_one_line, is_only, is_sound, block_len, suits}, Reading.{between, block_in, end_in, footer_in, parts_in, parts_shown, said_parts, second_in, text_in, time_of, time_size, AreCounted}};
 
 use crate::header::{Header, cut, read_header};
 use crate::numbers::{signed_eight, signed_four};

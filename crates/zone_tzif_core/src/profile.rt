@@ -1,8 +1,6 @@
 //! Files in the one spelling that is written.
 ghost use Rattle.std.specs.Prelude.{◌≡◌};
-ghost use Rattle.zone_tzif_core.specs.Profile.{Compares, ReadsWritten};
-ghost use Rattle.zone_tzif_core.specs.Shown.{zone_shown};
-ghost use Rattle.zone_tzif_core.specs.Tzif.{IsTzif};
+ghost use Rattle.zone_tzif_core.specs.{Profile.{Compares, ReadsWritten}, Shown.{zone_shown}, Tzif.{IsTzif}};
 
 use crate::reader::read_any;
 use crate::values::{ReadFault, TzifZone, WriteFault};

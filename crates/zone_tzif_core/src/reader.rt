@@ -1,8 +1,6 @@
 //! Files as other compilers write them.
 ghost use Rattle.std.specs.Prelude.{◌≡◌, ◌<◌, pos, length, slice_index_or, IfOk};
-ghost use Rattle.zone_tzif_core.specs.Denotes.{Denotes};
-ghost use Rattle.zone_tzif_core.specs.Shown.{kind_shown, record_shown, shift_shown, shifts_shown, zone_shown, Reads};
-ghost use Rattle.zone_tzif_core.specs.ZoneFiles.{change_with, kinds_kept, zone_seen};
+ghost use Rattle.zone_tzif_core.specs.{Denotes.{Denotes}, Shown.{kind_shown, record_shown, shift_shown, shifts_shown, zone_shown, Reads}, ZoneFiles.{change_with, kinds_kept, zone_seen}};
 
 use crate::file_reader::zone_of;
 use crate::kinds::Record;

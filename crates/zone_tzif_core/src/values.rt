@@ -1,7 +1,6 @@
 //! Compiled zones.
 ghost use Rattle.std.specs.Prelude.{◌≡◌};
-ghost use Rattle.zone_tzif_core.specs.declared.values.ReadFault.TheVariants.{NoMemory};
-ghost use Rattle.zone_tzif_core.specs.declared.values.WriteFault.TheVariants.{NoMemory as WriteNoMemory};
+ghost use Rattle.zone_tzif_core.specs.declared.values.{ReadFault.TheVariants.{NoMemory}, WriteFault.TheVariants.{NoMemory as WriteNoMemory}};
 
 use std::alloc::{AllocError, AllocFailed};
 

@@ -1,11 +1,6 @@
 //! The file of a value.
-ghost use Rattle.std.specs.Prelude.{◌≡◌, ℕ, ℤ, true, position, slice_index_or, string_bytes, IfSome, ◌≤◌, ◌+◌, ◌^◌, ◌<◌, [], ◌∷◌, ◌++◌, length, map, OnOk, IfOk, FitsSigned};
-ghost use Rattle.std.specs.Int.{w64};
-ghost use Rattle.std.specs.List.{flat_map, list_all, list_any, position_or_len};
-ghost use Rattle.zone_tzif_core.specs.Numbers.{count_bytes, four_bytes, eight_bytes};
-ghost use Rattle.zone_tzif_core.specs.Tzif.{header_bytes, kind_number, name_bytes, name_place, record_bytes, is_same, TimesFit};
-ghost use Rattle.zone_tzif_core.specs.Zones.{KindValue};
-ghost use Rattle.zone_tzif_core.specs.Shown.{kind_shown, kinds_seen, names_seen, shifts_shown};
+ghost use Rattle.std.specs.{Prelude.{◌≡◌, ℕ, ℤ, true, position, slice_index_or, string_bytes, IfSome, ◌≤◌, ◌+◌, ◌^◌, ◌<◌, [], ◌∷◌, ◌++◌, length, map, OnOk, IfOk, FitsSigned}, Int.{w64}, List.{flat_map, list_all, list_any, position_or_len}};
+ghost use Rattle.zone_tzif_core.specs.{Numbers.{count_bytes, four_bytes, eight_bytes}, Tzif.{header_bytes, kind_number, name_bytes, name_place, record_bytes, is_same, TimesFit}, Zones.{KindValue}, Shown.{kind_shown, kinds_seen, names_seen, shifts_shown}};
 
 use crate::distinct::is_same;
 use crate::values::{Kind, Version};

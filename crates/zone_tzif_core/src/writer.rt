@@ -1,9 +1,7 @@
 //! A value as its one file.
-ghost use Rattle.std.specs.Prelude.{◌≡◌, ◌==◌, nat_le, ◌≤◌, ◌<◌, ◌^◌, not, ℕ, ℤ, None, true, [], ◌∷◌, ◌++◌, length, slice_index_or, OnOk, IfOk};
-ghost use Rattle.std.specs.List.{list_all, list_any};
+ghost use Rattle.std.specs.{Prelude.{◌≡◌, ◌==◌, nat_le, ◌≤◌, ◌<◌, ◌^◌, not, ℕ, ℤ, None, true, [], ◌∷◌, ◌++◌, length, slice_index_or, OnOk, IfOk}, List.{list_all, list_any}};
 ghost use Rattle.zone_tzif_core.specs.Tzif.{is_same, kinds_of, names_of, name_bytes, name_place, block_bytes, tzif_by, are_times, are_names, first_fault, write_fault, Writes, WritesBy, IsTzif, IsTzifBy, TimesFit};
-ghost use Rattle.zone_tzif_core.specs.Shown.{kinds_seen, names_seen, shifts_shown, zone_shown};
-ghost use Rattle.zone_tzif_core.specs.Zones.{is_small};
+ghost use Rattle.zone_tzif_core.specs.{Shown.{kinds_seen, names_seen, shifts_shown, zone_shown}, Zones.{is_small}};
 
 use crate::distinct::{distinct_kinds, distinct_names};
 use crate::kinds::is_small;

@@ -1,7 +1,6 @@
 //! Compiled zones as they are looked up.
 ghost use Rattle.std.specs.Prelude.{◌≡◌, ◌<◌, length};
-ghost use Rattle.zone_tzif_core.specs.Shown.{record_shown};
-ghost use Rattle.zone_tzif_core.specs.Stored.{stored_kind, AreNumbered, AreStored, IsStored};
+ghost use Rattle.zone_tzif_core.specs.{Shown.{record_shown}, Stored.{stored_kind, AreNumbered, AreStored, IsStored}};
 
 use crate::file_reader::zone_file;
 use crate::kinds::Record;

@@ -1,19 +1,13 @@
 -- A zone opened from a table is opened from the source of that table.
 use Rattle.std.proofs.Common.{◌≡◌, ◌≤◌, ℕ, List, length, None, Result, Ok, Err, IfOk, IfErr, OnOk}
 use Rattle.zone_outside.specs.Limit.{text_limit}
-use Rattle.zone_source.specs.Faults.{source_fault}
-use Rattle.zone_source.specs.Zones.{values_of}
-use Rattle.zone_table.specs.Tables.{IsTableOf}
-use Rattle.zone_table.specs.declared.table.Table.{Table}
-use Rattle.tz_lookup.specs.CompactShown.{seen}
-use Rattle.tz_lookup.specs.Compiles.{compiled_in, IsCompiledAs}
-use Rattle.tz_lookup.specs.declared.compact_set.CompactSet.{CompactSet}
-use Rattle.sefunjaro.specs.Causes.{IsZoneCause}
-use Rattle.sefunjaro.specs.declared.error.Error.{Error}
+use Rattle.zone_source.specs.{Faults.{source_fault}, Zones.{values_of}}
+use Rattle.zone_table.specs.{Tables.{IsTableOf}, declared.table.Table.{Table}}
+use Rattle.tz_lookup.specs.{CompactShown.{seen}, Compiles.{compiled_in, IsCompiledAs}, declared.compact_set.CompactSet.{CompactSet}}
+use Rattle.sefunjaro.specs.{Causes.{IsZoneCause}, declared.error.Error.{Error}}
 use Rattle.sefunjaro.specs.declared.error.Error.TheVariants as error
 use Rattle.tz_zone.specs.declared.compile.ZoneFault.TheVariants as zone
-use Rattle.zone_uses.specs.Causes.{IsOpenCause}
-use Rattle.zone_uses.specs.Opened.{IsOpened}
+use Rattle.zone_uses.specs.{Causes.{IsOpenCause}, Opened.{IsOpened}}
 
 pub opened_from : (source name : List ℕ) (table : Table) (found : Result CompactSet Error) → IsTableOf table (values_of source)
     → IfOk found (λ set. (seen set).name ≡ name)

@@ -1,14 +1,8 @@
 -- Why a zone that was opened from a source isn't there is why its offset isn't.
-use Rattle.std.proofs.Common.{◌≡◌, ℕ, List, Result, Ok, Err, IfErr, sym, subst}
-use Rattle.std.specs.Result.{IsErrAnd}
-use Rattle.tz_zone.specs.Compiles.{compiled_in, IsZoneFault}
-use Rattle.tz_zone.specs.declared.compile.ZoneFault.{ZoneFault}
+use Rattle.std.{proofs.Common.{◌≡◌, ℕ, List, Result, Ok, Err, IfErr, sym, subst}, specs.Result.{IsErrAnd}}
+use Rattle.tz_zone.specs.{Compiles.{compiled_in, IsZoneFault}, declared.compile.ZoneFault.{ZoneFault}}
 use Rattle.tz_zone.specs.declared.compile.ZoneFault.TheVariants as zone
-use Rattle.sefunjaro.specs.AnySources.{IsAnySource}
-use Rattle.sefunjaro.specs.Errors.{of_zone}
-use Rattle.sefunjaro.specs.Sources.{table_in}
-use Rattle.sefunjaro.specs.declared.error.Error.{Error}
-use Rattle.sefunjaro.specs.declared.source.OpenSource.{OpenSource}
+use Rattle.sefunjaro.specs.{AnySources.{IsAnySource}, Errors.{of_zone}, Sources.{table_in}, declared.error.Error.{Error}, declared.source.OpenSource.{OpenSource}}
 use Rattle.zone_uses.specs.Causes.{IsOffsetCause}
 
 of_fault : (text name : List ℕ) (source : OpenSource) (fault : ZoneFault) → IsAnySource text source

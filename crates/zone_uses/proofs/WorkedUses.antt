@@ -3,11 +3,7 @@ use Rattle.std.proofs.Common.{◌≡◌, ℕ, List, [], ◌∷◌, map, Some, No
 use Rattle.civil_base.specs.DateTimes.{instant}
 use Rattle.sefunjaro.specs.declared.error.Error.TheVariants as error
 use Rattle.zone_alarm.specs.declared.ring.AlarmFault.TheVariants as alarm
-use Rattle.zone_uses.specs.Answers.{first_of, next_after}
-use Rattle.zone_uses.specs.Causes.{IsAlarmCause, IsFileCause, IsOpenCause}
-use Rattle.zone_uses.specs.MovedShown.{total_shown}
-use Rattle.zone_uses.specs.Moves.{total_around}
-use Rattle.zone_uses.specs.declared.moved.Moved.{Moved}
+use Rattle.zone_uses.specs.{Answers.{first_of, next_after}, Causes.{IsAlarmCause, IsFileCause, IsOpenCause}, MovedShown.{total_shown}, Moves.{total_around}, declared.moved.Moved.{Moved}}
 
 -- after a second, not at it
 next_times : map (next_after (pos 0 ∷ pos 5 ∷ pos 9 ∷ [])) (negsuc 0 ∷ pos 0 ∷ pos 4 ∷ pos 5 ∷ pos 8 ∷ pos 9 ∷ [])

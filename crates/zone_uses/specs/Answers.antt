@@ -1,17 +1,9 @@
 -- What the callers answer.
-use Rattle.std.specs.Prelude.{◌≡◌, ℕ, ℤ, int_lt, List, [], ◌∷◌, Option, Some, None, Ok}
-use Rattle.std.specs.List.{find}
-use Rattle.tz_posix.specs.Parses.{IsParsed}
-use Rattle.tz_posix.specs.PosixShown.{posix_of}
-use Rattle.tz_posix.specs.PosixZones.{GivesTotal}
-use Rattle.tz_posix.specs.declared.posix.PosixTz.{PosixTz}
+use Rattle.std.specs.{Prelude.{◌≡◌, ℕ, ℤ, int_lt, List, [], ◌∷◌, Option, Some, None, Ok}, List.{find}}
+use Rattle.tz_posix.specs.{Parses.{IsParsed}, PosixShown.{posix_of}, PosixZones.{GivesTotal}, declared.posix.PosixTz.{PosixTz}}
 use Rattle.tz_zone.specs.declared.set.FixedTimespanSet.{FixedTimespanSet}
-use Rattle.tz_tzif.specs.Faults.{SaysInFooter}
-use Rattle.tz_tzif.specs.InForce.{told_total_at}
-use Rattle.tz_tzif.specs.Zones.{value_of, says_of}
-use Rattle.tz_tzif.specs.declared.zone.TzifTz.{TzifTz}
-use Rattle.zone_tzif_core.specs.Denotes.{Says}
-use Rattle.zone_tzif_core.specs.Zones.{ZoneValue}
+use Rattle.tz_tzif.specs.{Faults.{SaysInFooter}, InForce.{told_total_at}, Zones.{value_of, says_of}, declared.zone.TzifTz.{TzifTz}}
+use Rattle.zone_tzif_core.specs.{Denotes.{Says}, Zones.{ZoneValue}}
 
 -- the first of a list, if it has one
 abbrev pub first_of : {A : Type 0} → List A → Option A

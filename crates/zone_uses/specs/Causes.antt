@@ -1,34 +1,20 @@
 -- Why the callers have no answer.
 use Rattle.std.specs.Prelude.{◌≡◌, ◌≤◌, ℕ, List, length, ℤ, true, false, Some, None, Ok, Err}
-use Rattle.sefunjaro.specs.AnySources.{IsAnyFault, IsAnySource}
-use Rattle.sefunjaro.specs.Causes.{IsSourceCause}
-use Rattle.sefunjaro.specs.Sources.{table_in}
+use Rattle.sefunjaro.specs.{AnySources.{IsAnyFault, IsAnySource}, Causes.{IsSourceCause}, Sources.{table_in}, declared.source.OpenSource.{OpenSource}, declared.error.Error.{Error}}
 use Rattle.sefunjaro.specs.declared.any_source.AnySourceFault.TheVariants as any_source
-use Rattle.sefunjaro.specs.declared.source.OpenSource.{OpenSource}
-use Rattle.sefunjaro.specs.declared.error.Error.{Error}
 use Rattle.sefunjaro.specs.declared.error.Error.TheVariants as error
-use Rattle.tz_posix.specs.Parses.{IsParsed}
-use Rattle.tz_posix.specs.PosixShown.{posix_of}
-use Rattle.tz_posix.specs.PosixZones.{posix_refusal}
+use Rattle.tz_posix.specs.{Parses.{IsParsed}, PosixShown.{posix_of}, PosixZones.{posix_refusal}, declared.error.ParseError.{ParseError}, declared.posix.PosixTz.{PosixTz}}
 use Rattle.tz_posix.specs.declared.error.Error as range
-use Rattle.tz_posix.specs.declared.error.ParseError.{ParseError}
-use Rattle.tz_posix.specs.declared.posix.PosixTz.{PosixTz}
-use Rattle.tz_tzif.specs.Faults.{IsTzifFault}
-use Rattle.tz_tzif.specs.declared.fault.TzifFault.{TzifFault}
+use Rattle.tz_tzif.specs.{Faults.{IsTzifFault}, declared.fault.TzifFault.{TzifFault}}
 use Rattle.tz_tzif.specs.declared.fault.TzifFault.TheVariants as file_zone
-use Rattle.tz_zone.specs.Compiles.{compiled_in, IsZoneFault}
-use Rattle.tz_zone.specs.declared.compile.ZoneFault.{ZoneFault}
+use Rattle.tz_zone.specs.{Compiles.{compiled_in, IsZoneFault}, declared.compile.ZoneFault.{ZoneFault}, declared.set.FixedTimespanSet.{FixedTimespanSet}}
 use Rattle.tz_zone.specs.declared.compile.ZoneFault.TheVariants as zone
-use Rattle.tz_zone.specs.declared.set.FixedTimespanSet.{FixedTimespanSet}
 use Rattle.zone_alarm.specs.Rings.{ends_in_years}
 use Rattle.zone_alarm.specs.declared.ring.AlarmFault.TheVariants as alarm
 use Rattle.zone_outside.specs.Limit.{text_limit}
-use Rattle.zone_source.specs.Faults.{source_fault}
-use Rattle.zone_source.specs.Zones.{values_of}
-use Rattle.zone_table.specs.Tables.{IsTableOf}
-use Rattle.zone_table.specs.declared.table.Table.{Table}
-use Rattle.zone_tzif_core.specs.Denotes.{Says}
-use Rattle.zone_tzif_core.specs.Zones.{ZoneValue}
+use Rattle.zone_source.specs.{Faults.{source_fault}, Zones.{values_of}}
+use Rattle.zone_table.specs.{Tables.{IsTableOf}, declared.table.Table.{Table}}
+use Rattle.zone_tzif_core.specs.{Denotes.{Says}, Zones.{ZoneValue}}
 use Rattle.zone_tzif_core.specs.declared.values.ReadFault.TheVariants as read
 
 -- the source isn't too long, no line of it is refused, and the name has no zone in its table

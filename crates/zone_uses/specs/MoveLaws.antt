@@ -1,14 +1,9 @@
 -- What a zone that changes its offset once owes.
-use Rattle.std.proofs.Common.{◌≡◌, Bool, true, false, cond, List, [], ◌∷◌, map, take, length, ◌≤◌, ℤ, pos, ◌+ℤ◌, ◌*ℤ◌, ◌<ℤ◌, refl, sym, ap, ◌∙◌, subst, ⊎_elim, arith}
-use Rattle.std.specs.Prelude.{Contains, int_lt}
-use Rattle.std.proofs.lemmas.Bool.{cases_Bool}
+use Rattle.std.{proofs.Common.{◌≡◌, Bool, true, false, cond, List, [], ◌∷◌, map, take, length, ◌≤◌, ℤ, pos, ◌+ℤ◌, ◌*ℤ◌, ◌<ℤ◌, refl, sym, ap, ◌∙◌, subst, ⊎_elim, arith}, specs.Prelude.{Contains, int_lt}, proofs.lemmas.Bool.{cases_Bool}}
 use Rattle.basics.specs.ComparisonLaws.{lt_from_pass, lt_from_fail, lt_le}
-use Rattle.civil_base.specs.Instants.{instant_at}
-use Rattle.civil_base.specs.Ranges.{IsOffset}
+use Rattle.civil_base.specs.{Instants.{instant_at}, Ranges.{IsOffset}}
 use Rattle.zone_spans.specs.Schedules.{instants}
-use Rattle.tz_zone.specs.InForce.{AreInstants, totals_at}
-use Rattle.tz_zone.specs.InstantLaws.{from_reading, instants_one, reads_back}
-use Rattle.tz_zone.specs.RisingLaws.{Rises, pairs_more, contains_head, contains_more, cases_more}
+use Rattle.tz_zone.specs.{InForce.{AreInstants, totals_at}, InstantLaws.{from_reading, instants_one, reads_back}, RisingLaws.{Rises, pairs_more, contains_head, contains_more, cases_more}}
 use Rattle.zone_uses.specs.Moves.{total_around, around_list}
 
 total_early : (change a b t : ℤ) → int_lt t change ≡ true → total_around change a b t ≡ a

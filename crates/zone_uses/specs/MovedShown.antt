@@ -1,8 +1,7 @@
 -- What a zone of one change shows.
 use Rattle.std.specs.Prelude.{ℕ, List, ℤ}
 use Rattle.civil_base.specs.DateTimes.{instant}
-use Rattle.zone_uses.specs.Moves.{total_around}
-use Rattle.zone_uses.specs.declared.moved.Moved.{Moved}
+use Rattle.zone_uses.specs.{Moves.{total_around}, declared.moved.Moved.{Moved}}
 
 abbrev pub name_shown : Moved → List ℕ
 name_shown zone = zone.name.now

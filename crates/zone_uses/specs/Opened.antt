@@ -1,16 +1,10 @@
 -- A zone from a source.
 use Rattle.std.specs.Prelude.{◌≡◌, ℕ, ℤ, List}
-use Rattle.sefunjaro.specs.AnySources.{IsAnySource}
-use Rattle.sefunjaro.specs.Sources.{table_in}
+use Rattle.sefunjaro.specs.{AnySources.{IsAnySource}, Sources.{table_in}, declared.source.OpenSource.{OpenSource}, declared.zone.OpenZone.{OpenZone}}
 use Rattle.sefunjaro.specs.Zones as zones
-use Rattle.sefunjaro.specs.declared.source.OpenSource.{OpenSource}
-use Rattle.sefunjaro.specs.declared.zone.OpenZone.{OpenZone}
 use Rattle.zone_source.specs.Zones.{values_of}
-use Rattle.zone_table.specs.Tables.{IsTableOf}
-use Rattle.zone_table.specs.declared.table.Table.{Table}
-use Rattle.tz_lookup.specs.CompactShown.{seen}
-use Rattle.tz_lookup.specs.Compiles.{compiled_in, IsCompiledAs}
-use Rattle.tz_lookup.specs.declared.compact_set.CompactSet.{CompactSet}
+use Rattle.zone_table.specs.{Tables.{IsTableOf}, declared.table.Table.{Table}}
+use Rattle.tz_lookup.specs.{CompactShown.{seen}, Compiles.{compiled_in, IsCompiledAs}, declared.compact_set.CompactSet.{CompactSet}}
 
 -- the set has that name, and the spans of what the name finds in the table of the source's lines
 pub record IsOpened (source name : List ℕ) (set : CompactSet) : Type 0 where

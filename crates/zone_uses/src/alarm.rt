@@ -1,8 +1,7 @@
 //! A daily alarm.
 ghost use Rattle.std.specs.Prelude.{◌≡◌, ◌++◌, true, IfErr, IfOk, OnOk, filter_map, map, option_to_list};
 ghost use Rattle.tz_zone.specs.InForce.{shown_of};
-ghost use Rattle.zone_alarm.specs.Rings.{ends_in_years, rings};
-ghost use Rattle.zone_alarm.specs.Shown.{ring_shown};
+ghost use Rattle.zone_alarm.specs.{Rings.{ends_in_years, rings}, Shown.{ring_shown}};
 ghost use Rattle.zone_uses.specs.Causes.{IsAlarmCause};
 
 use sefunjaro::{Date, Error, OffsetDateTime, Ring, Time, TimeZone, alarms};

@@ -1,8 +1,7 @@
 //! A compiled zone file, as those of the machine.
 ghost use Rattle.std.specs.Prelude.{IfErr, IfOk};
 ghost use Rattle.civil_base.specs.DateTimes.{instant};
-ghost use Rattle.zone_uses.specs.Answers.{IsGivenByFile};
-ghost use Rattle.zone_uses.specs.Causes.{IsFileCause};
+ghost use Rattle.zone_uses.specs.{Answers.{IsGivenByFile}, Causes.{IsFileCause}};
 
 use sefunjaro::{Error, Offset, OffsetDateTime, TimeZone, TzifTz, UtcOffset, read_file};
 use std::alloc::Global;

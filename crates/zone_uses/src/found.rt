@@ -1,7 +1,5 @@
 //! A database of every zone, asked by a name or by a part of one.
-ghost use Rattle.std.specs.Prelude.{◌≡◌, filter, length, option_map, IfOk};
-ghost use Rattle.std.specs.List.{find};
-ghost use Rattle.std.specs.Str.{bytes_eq};
+ghost use Rattle.std.specs.{Prelude.{◌≡◌, filter, length, option_map, IfOk}, List.{find}, Str.{bytes_eq}};
 ghost use Rattle.civil_base.specs.DateTimes.{instant};
 ghost use Rattle.zone_spans.specs.Schedules.{total_at};
 ghost use Rattle.tz_lookup.specs.Databases.{has_part};

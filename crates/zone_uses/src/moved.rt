@@ -1,8 +1,6 @@
 //! A zone of one's own: whatever has the laws of a `TimeZone` can be asked by every call of the library.
 ghost use Rattle.std.specs.Prelude.{◌≡◌, ℤ, ◌≤◌, length, false, int_lt};
-ghost use Rattle.civil_base.specs.DateTimes.{instant, local_of};
-ghost use Rattle.civil_base.specs.Instants.{instant_at};
-ghost use Rattle.civil_base.specs.Ranges.{IsOffset};
+ghost use Rattle.civil_base.specs.{DateTimes.{instant, local_of}, Instants.{instant_at}, Ranges.{IsOffset}};
 ghost use Rattle.zone_spans.specs.Schedules.{instants};
 ghost use Rattle.zone_uses.specs.Moves.{total_around};
 
@@ -31,8 +29,7 @@ impl<'a> Moved<'a> {
     ghost use Rattle.std.specs.Prelude.{◌≡◌, map};
     ghost use Rattle.tz_zone.specs.Answers.{listed, EachOf};
     ghost use Rattle.civil_base.specs.DateTimes.{instant};
-    ghost use Rattle.zone_uses.specs.Moves.{around_list, total_around};
-    ghost use Rattle.zone_uses.specs.MovedShown.{name_shown, total_shown};
+    ghost use Rattle.zone_uses.specs.{Moves.{around_list, total_around}, MovedShown.{name_shown, total_shown}};
 
     /// The zone of that name, that has the first offset before the instant of a date-time, and the second from it on.
     #[tactic(auto, unfolding(crate::specs::MovedShown::total_shown))]

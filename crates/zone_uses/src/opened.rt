@@ -2,8 +2,7 @@
 ghost use Rattle.std.specs.Prelude.{◌≡◌, ◌≤◌, None, IfErr, IfOk, OnOk, length};
 ghost use Rattle.zone_outside.specs.Limit.{text_limit};
 ghost use Rattle.zone_source.specs.Faults.{source_fault};
-ghost use Rattle.zone_uses.specs.Causes.{IsOpenCause};
-ghost use Rattle.zone_uses.specs.Opened.{IsOpened};
+ghost use Rattle.zone_uses.specs.{Causes.{IsOpenCause}, Opened.{IsOpened}};
 
 use sefunjaro::{CompactSet, Error, LineParser, open_source, open_zone};
 use std::alloc::Global;

@@ -1,8 +1,7 @@
 //! A POSIX TZ string.
 ghost use Rattle.std.specs.Prelude.{IfSome, IsNone};
 ghost use Rattle.civil_base.specs.DateTimes.{instant};
-ghost use Rattle.zone_uses.specs.Answers.{IsGivenBy};
-ghost use Rattle.zone_uses.specs.Causes.{IsNotGiven};
+ghost use Rattle.zone_uses.specs.{Answers.{IsGivenBy}, Causes.{IsNotGiven}};
 
 use sefunjaro::{Database, Offset, OffsetDateTime, PosixTz, UtcOffset};
 

@@ -1,8 +1,7 @@
 //! A source in any form, asked with one error; and the same for whoever only shows what is refused.
 ghost use Rattle.std.specs.Prelude.{IfErr, IfOk, OnErr};
 ghost use Rattle.civil_base.specs.DateTimes.{instant};
-ghost use Rattle.zone_uses.specs.Causes.{IsOffsetCause, HasOffsetCause};
-ghost use Rattle.zone_uses.specs.Opened.{IsGivenInSource};
+ghost use Rattle.zone_uses.specs.{Causes.{IsOffsetCause, HasOffsetCause}, Opened.{IsGivenInSource}};
 
 use sefunjaro::{Error, OffsetDateTime, OpenSource};
 use std::alloc::Global;

@@ -1,18 +1,8 @@
 -- What the day with a weekday is: on its side of the day that it is counted from, with that weekday, and the nearest such
 -- day; the last one of a month lies in the month.
-use Rattle.std.proofs.Common.{◌≡◌, ℕ, ◌+◌, ◌-◌, ◌%◌, ◌<◌, ℤ, pos, ◌+ℤ◌, ◌-ℤ◌, ◌≤ℤ◌, inl, inr, arith}
-use Rattle.std.proofs.lemmas.Bool.{cases_lt}
-use Rattle.std.proofs.lemmas.Int.{ints}
-use Rattle.basics.specs.Days.{days_in_month, days_into_year, day}
-use Rattle.basics.specs.MonthLaws.{days_in_month-bounds}
-use Rattle.basics.specs.WeekdayLaws.{weekday_of-later, weekday_of-small}
-use Rattle.basics.specs.Weekdays.{weekday_of}
-use Rattle.zone_values.specs.Days.{first_from, last_up_to, named_day}
-use Rattle.zone_values.specs.Months.{month_number}
-use Rattle.zone_values.specs.WeekdayLaws.{first_from-is, weekday_number-small}
-use Rattle.zone_values.specs.Weekdays.{weekday_number}
-use Rattle.zone_values.specs.declared.day.DaySpec.TheVariants.{Last}
-use Rattle.zone_values.specs.declared.month.Month.{Month}
+use Rattle.std.proofs.{Common.{◌≡◌, ℕ, ◌+◌, ◌-◌, ◌%◌, ◌<◌, ℤ, pos, ◌+ℤ◌, ◌-ℤ◌, ◌≤ℤ◌, inl, inr, arith}, lemmas.Bool.{cases_lt}, lemmas.Int.{ints}}
+use Rattle.basics.specs.{Days.{days_in_month, days_into_year, day}, MonthLaws.{days_in_month-bounds}, WeekdayLaws.{weekday_of-later, weekday_of-small}, Weekdays.{weekday_of}}
+use Rattle.zone_values.specs.{Days.{first_from, last_up_to, named_day}, Months.{month_number}, WeekdayLaws.{first_from-is, weekday_number-small}, Weekdays.{weekday_number}, declared.day.DaySpec.TheVariants.{Last}, declared.month.Month.{Month}}
 use Rattle.zone_values.specs.declared.weekday.Weekday.{Weekday}
 
 -- `first_from` gives a day with the weekday

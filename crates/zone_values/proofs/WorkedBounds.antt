@@ -1,18 +1,8 @@
 -- The bounds of lines at worked rows: each of their tests fails once.
 use Rattle.std.proofs.Common.{◌≡◌, [], ◌∷◌, map, true, false, Option, Some, None, refl, pos, negsuc}
-use Rattle.zone_values.specs.Bounds.{are_small_seconds, is_bounded_end, is_bounded_info, is_bounded_rule, is_bounded_line}
-use Rattle.zone_values.specs.Seconds.{with_type}
-use Rattle.zone_values.specs.Values.{SavingValue, no_saving, one_off, multiple, InfoValue, RuleValue, space, zone, continuation, rule, link}
-use Rattle.zone_values.specs.declared.change.ChangeTime.{ChangeTime}
-use Rattle.zone_values.specs.declared.change.ChangeTime.TheVariants.{UntilYear, UntilTime}
-use Rattle.zone_values.specs.declared.day.DaySpec.{DaySpec}
-use Rattle.zone_values.specs.declared.day.DaySpec.TheVariants.{Ordinal, Last}
-use Rattle.zone_values.specs.declared.month.Month.TheVariants.{March}
-use Rattle.zone_values.specs.declared.time.TimeSpec.{TimeSpec}
-use Rattle.zone_values.specs.declared.time.TimeSpec.TheVariants.{Hours}
-use Rattle.zone_values.specs.declared.time.TimeType.TheVariants.{Wall}
-use Rattle.zone_values.specs.declared.weekday.Weekday.TheVariants.{Sunday}
-use Rattle.zone_values.specs.declared.year.Year.TheVariants.{Minimum, Number}
+use Rattle.zone_values.specs.{Bounds.{are_small_seconds, is_bounded_end, is_bounded_info, is_bounded_rule, is_bounded_line}, Seconds.{with_type}, Values.{SavingValue, no_saving, one_off, multiple, InfoValue, RuleValue, space, zone, continuation, rule, link}}
+use Rattle.zone_values.specs.declared.{change.ChangeTime.{ChangeTime}, change.ChangeTime.TheVariants.{UntilYear, UntilTime}, day.DaySpec.{DaySpec}, day.DaySpec.TheVariants.{Ordinal, Last}, month.Month.TheVariants.{March}, time.TimeSpec.{TimeSpec}}
+use Rattle.zone_values.specs.declared.{time.TimeSpec.TheVariants.{Hours}, time.TimeType.TheVariants.{Wall}, weekday.Weekday.TheVariants.{Sunday}, year.Year.TheVariants.{Minimum, Number}}
 
 seconds : map are_small_seconds (negsuc 1000000 ∷ negsuc 999999 ∷ pos 1000000 ∷ pos 1000001 ∷ []) ≡ false ∷ true ∷ true ∷ false ∷ []
 seconds = refl

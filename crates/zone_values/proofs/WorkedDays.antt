@@ -1,22 +1,10 @@
 -- The days that rules and ends name, and the moments of ends, at worked rows.
-use Rattle.std.proofs.Common.{◌≡◌, [], ◌∷◌, map, true, false, Some, None, refl, pos, negsuc, arith}
-use Rattle.std.proofs.lemmas.Int.{ints}
-use Rattle.basics.specs.Days.{is_leap, days_in_year, days_in_month, days_after_zero, year_start, days_through, days_into_year, day, IsDate, IsCountedYear}
-use Rattle.basics.specs.DateLaws.{month_of-day, day_of-day}
-use Rattle.basics.specs.Dates.{last_with}
-use Rattle.basics.specs.Weekdays.{weekday_of}
-use Rattle.zone_values.specs.Days.{named_day, first_from, is_in_year, has_day_of_month, written, concrete_day}
-use Rattle.zone_values.specs.Ends.{is_dated, is_dated_year, time_type, wall}
-use Rattle.zone_values.specs.Seconds.{seconds_of, with_type}
-use Rattle.zone_values.specs.Weekdays.{weekday_number}
-use Rattle.zone_values.specs.declared.change.ChangeTime.{ChangeTime}
-use Rattle.zone_values.specs.declared.change.ChangeTime.TheVariants.{UntilYear, UntilMonth, UntilDay, UntilTime}
-use Rattle.zone_values.specs.declared.day.DaySpec.TheVariants.{Ordinal, Last, LastOnOrBefore, FirstOnOrAfter}
-use Rattle.zone_values.specs.declared.month.Month.TheVariants.{January, February, March, April, May, June, October, November, December}
-use Rattle.zone_values.specs.declared.time.TimeSpec.TheVariants.{Hours, HoursMinutes, HoursMinutesSeconds, Zero}
-use Rattle.zone_values.specs.declared.time.TimeType.TheVariants.{Wall, Standard}
-use Rattle.zone_values.specs.declared.weekday.Weekday.TheVariants.{Sunday, Monday, Tuesday, Wednesday, Thursday, Friday, Saturday}
-use Rattle.zone_values.specs.declared.year.Year.TheVariants.{Minimum, Maximum, Number}
+use Rattle.std.proofs.{Common.{◌≡◌, [], ◌∷◌, map, true, false, Some, None, refl, pos, negsuc, arith}, lemmas.Int.{ints}}
+use Rattle.basics.specs.{Days.{is_leap, days_in_year, days_in_month, days_after_zero, year_start, days_through, days_into_year, day, IsDate, IsCountedYear}, DateLaws.{month_of-day, day_of-day}, Dates.{last_with}, Weekdays.{weekday_of}}
+use Rattle.zone_values.specs.{Days.{named_day, first_from, is_in_year, has_day_of_month, written, concrete_day}, Ends.{is_dated, is_dated_year, time_type, wall}, Seconds.{seconds_of, with_type}, Weekdays.{weekday_number}}
+use Rattle.zone_values.specs.declared.{change.ChangeTime.{ChangeTime}, change.ChangeTime.TheVariants.{UntilYear, UntilMonth, UntilDay, UntilTime}, day.DaySpec.TheVariants.{Ordinal, Last, LastOnOrBefore, FirstOnOrAfter}}
+use Rattle.zone_values.specs.declared.{month.Month.TheVariants.{January, February, March, April, May, June, October, November, December}, time.TimeSpec.TheVariants.{Hours, HoursMinutes, HoursMinutesSeconds, Zero}, time.TimeType.TheVariants.{Wall, Standard}}
+use Rattle.zone_values.specs.declared.{weekday.Weekday.TheVariants.{Sunday, Monday, Tuesday, Wednesday, Thursday, Friday, Saturday}, year.Year.TheVariants.{Minimum, Maximum, Number}}
 
 -- the days of the week from Sunday, 2024-07-14, on
 a_week : map (λ w. first_from (weekday_number w) (day (pos 2024) 7 14))

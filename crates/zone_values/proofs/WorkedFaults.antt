@@ -1,12 +1,8 @@
 -- The kinds of faults, their names and what they show, at worked rows.
-use Rattle.std.proofs.Common.{◌≡◌, List, [], ◌∷◌, ◌++◌, map, Some, None, refl}
-use Rattle.std.specs.Prelude.{codes, string_bytes}
-use Rattle.std.specs.declared.alloc.Global.{Global}
-use Rattle.std.specs.declared.string.String.{String}
-use Rattle.zone_values.specs.Faults.{fault_name, fault_of, refused, told_text}
-use Rattle.zone_values.specs.declared.error.Error.TheVariants as error
-use Rattle.zone_values.specs.declared.fault.FaultKind.{FaultKind}
+use Rattle.std.{proofs.Common.{◌≡◌, List, [], ◌∷◌, ◌++◌, map, Some, None, refl}, specs.Prelude.{codes, string_bytes}, specs.declared.alloc.Global.{Global}, specs.declared.string.String.{String}}
+use Rattle.zone_values.specs.{Faults.{fault_name, fault_of, refused, told_text}, declared.fault.FaultKind.{FaultKind}}
 use Rattle.zone_values.specs.declared.fault.FaultKind.TheVariants.{FailedYearParse, FailedMonthParse, FailedWeekdayParse, InvalidLineType, TypeColumnContainedNonHyphen, CouldNotParseSaving, InvalidDaySpec, InvalidTimeSpecAndType, NonWallClockInTimeSpec}
+use Rattle.zone_values.specs.declared.error.Error.TheVariants as error
 
 abbrev kinds : List FaultKind
 kinds = FailedYearParse ∷ FailedMonthParse ∷ FailedWeekdayParse ∷ InvalidLineType ∷ TypeColumnContainedNonHyphen

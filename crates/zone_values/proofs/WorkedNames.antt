@@ -1,17 +1,10 @@
 -- The names of months, weekdays and years, at worked rows.
-use Rattle.std.proofs.Common.{◌≡◌, ℕ, List, [], ◌∷◌, map, Some, None, Err, refl, pos, negsuc}
-use Rattle.std.specs.Prelude.{codes}
-use Rattle.zone_values.specs.Faults.{refused}
-use Rattle.zone_values.specs.Months.{month_number, month_numbered, month_named, month_field}
+use Rattle.std.{proofs.Common.{◌≡◌, ℕ, List, [], ◌∷◌, map, Some, None, Err, refl, pos, negsuc}, specs.Prelude.{codes}}
+use Rattle.zone_values.specs.{Faults.{refused}, Months.{month_number, month_numbered, month_named, month_field}, Weekdays.{weekday_number, weekday_named, weekday_field}, Years.{year_named, year_field}}
+use Rattle.zone_values.specs.declared.{fault.FaultKind.TheVariants.{FailedYearParse, FailedMonthParse, FailedWeekdayParse}, month.Month.{Month}}
+use Rattle.zone_values.specs.declared.{month.Month.TheVariants.{January, February, March, April, May, June, July, August, September, October, November, December}, weekday.Weekday.{Weekday}}
+use Rattle.zone_values.specs.declared.{weekday.Weekday.TheVariants.{Sunday, Monday, Tuesday, Wednesday, Thursday, Friday, Saturday}, year.Year.TheVariants.{Minimum, Maximum, Number}}
 use Rattle.basics.specs.Numbers.{signed_in}
-use Rattle.zone_values.specs.Weekdays.{weekday_number, weekday_named, weekday_field}
-use Rattle.zone_values.specs.Years.{year_named, year_field}
-use Rattle.zone_values.specs.declared.fault.FaultKind.TheVariants.{FailedYearParse, FailedMonthParse, FailedWeekdayParse}
-use Rattle.zone_values.specs.declared.month.Month.{Month}
-use Rattle.zone_values.specs.declared.month.Month.TheVariants.{January, February, March, April, May, June, July, August, September, October, November, December}
-use Rattle.zone_values.specs.declared.weekday.Weekday.{Weekday}
-use Rattle.zone_values.specs.declared.weekday.Weekday.TheVariants.{Sunday, Monday, Tuesday, Wednesday, Thursday, Friday, Saturday}
-use Rattle.zone_values.specs.declared.year.Year.TheVariants.{Minimum, Maximum, Number}
 
 abbrev months : List Month
 months =

@@ -1,19 +1,9 @@
 -- What the code's values of lines show, at worked rows: each text stands in its own place.
-use Rattle.std.proofs.Common.{◌≡◌, ℕ, List, [], ◌∷◌, map, Some, refl, pos}
-use Rattle.std.specs.Prelude.{codes}
-use Rattle.std.specs.Borrow.{Bor}
-use Rattle.zone_values.specs.Seconds.{with_type}
-use Rattle.zone_values.specs.Values.{no_saving, one_off, multiple, space, zone, continuation, rule, link, line_value, saving_value}
-use Rattle.zone_values.specs.declared.change.ChangeTime.TheVariants.{UntilYear}
-use Rattle.zone_values.specs.declared.day.DaySpec.TheVariants.{Ordinal}
+use Rattle.std.{proofs.Common.{◌≡◌, ℕ, List, [], ◌∷◌, map, Some, refl, pos}, specs.Prelude.{codes}, specs.Borrow.{Bor}}
+use Rattle.zone_values.specs.{Seconds.{with_type}, Values.{no_saving, one_off, multiple, space, zone, continuation, rule, link, line_value, saving_value}, declared.change.ChangeTime.TheVariants.{UntilYear}, declared.day.DaySpec.TheVariants.{Ordinal}}
+use Rattle.zone_values.specs.declared.{line.Rule.{Rule}, line.ZoneInfo.{ZoneInfo}, month.Month.TheVariants.{March}, time.TimeSpec.TheVariants.{Hours}, time.TimeType.TheVariants.{Standard}, year.Year.TheVariants.{Maximum, Number}}
 use Rattle.zone_values.specs.declared.line.Line.TheVariants as code
-use Rattle.zone_values.specs.declared.line.Rule.{Rule}
 use Rattle.zone_values.specs.declared.line.Saving.TheVariants as saving
-use Rattle.zone_values.specs.declared.line.ZoneInfo.{ZoneInfo}
-use Rattle.zone_values.specs.declared.month.Month.TheVariants.{March}
-use Rattle.zone_values.specs.declared.time.TimeSpec.TheVariants.{Hours}
-use Rattle.zone_values.specs.declared.time.TimeType.TheVariants.{Standard}
-use Rattle.zone_values.specs.declared.year.Year.TheVariants.{Maximum, Number}
 
 -- a text of a line, wherever it lies
 abbrev at : ℕ → List ℕ → Bor (List ℕ)

@@ -1,11 +1,6 @@
 -- Lines whose numbers are small: each day number is from 1 to 31, and each amount of seconds at most 1,000,000 in size.
-use Rattle.std.specs.Prelude.{ℤ, pos, neg_ℤ, int_le, Bool, true, ◌&&◌}
-use Rattle.std.specs.Option.{option_map_or}
-use Rattle.zone_values.specs.Days.{has_day_of_month}
-use Rattle.zone_values.specs.Ends.{end_day, end_seconds}
-use Rattle.zone_values.specs.Seconds.{seconds_of}
-use Rattle.zone_values.specs.Values.{SavingValue, one_off, InfoValue, RuleValue, LineValue, space, zone, continuation, rule, link}
-use Rattle.zone_values.specs.declared.change.ChangeTime.{ChangeTime}
+use Rattle.std.specs.{Prelude.{ℤ, pos, neg_ℤ, int_le, Bool, true, ◌&&◌}, Option.{option_map_or}}
+use Rattle.zone_values.specs.{Days.{has_day_of_month}, Ends.{end_day, end_seconds}, Seconds.{seconds_of}, Values.{SavingValue, one_off, InfoValue, RuleValue, LineValue, space, zone, continuation, rule, link}, declared.change.ChangeTime.{ChangeTime}}
 
 abbrev pub are_small_seconds : ℤ → Bool
 are_small_seconds seconds = int_le (neg_ℤ (pos 1000000)) seconds && int_le seconds (pos 1000000)

@@ -1,13 +1,7 @@
 -- The days that rules and ends name.
 use Rattle.std.specs.Prelude.{ℕ, ◌==◌, ℤ, pos, ◌+ℤ◌, ◌-ℤ◌, nat_abs, int_le, int_lt, Bool, true, ◌&&◌, Option, Some, None, if◌then◌else◌}
-use Rattle.basics.specs.Days.{day, days_in_month}
-use Rattle.basics.specs.Dates.{last_with, month_of, day_of}
-use Rattle.basics.specs.Weekdays.{weekday_of}
-use Rattle.zone_values.specs.Months.{month_number, month_numbered}
-use Rattle.zone_values.specs.Weekdays.{weekday_number}
-use Rattle.zone_values.specs.declared.day.DaySpec.{DaySpec}
-use Rattle.zone_values.specs.declared.day.DaySpec.TheVariants.{Ordinal, Last, LastOnOrBefore, FirstOnOrAfter}
-use Rattle.zone_values.specs.declared.month.Month.{Month}
+use Rattle.basics.specs.{Days.{day, days_in_month}, Dates.{last_with, month_of, day_of}, Weekdays.{weekday_of}}
+use Rattle.zone_values.specs.{Months.{month_number, month_numbered}, Weekdays.{weekday_number}, declared.day.DaySpec.{DaySpec}, declared.day.DaySpec.TheVariants.{Ordinal, Last, LastOnOrBefore, FirstOnOrAfter}, declared.month.Month.{Month}}
 
 -- of the seven days from k on, the one with the weekday: the least such day at least k
 unfoldable pub first_from : ℕ → ℤ → ℤ

@@ -1,17 +1,7 @@
 -- The ends of zone lines, as moments.
 use Rattle.std.specs.Prelude.{ℤ, pos, ◌+ℤ◌, ◌*ℤ◌, int_le, Bool, false, ◌&&◌}
-use Rattle.zone_values.specs.Days.{named_day, has_day_of_month, is_in_year}
-use Rattle.zone_values.specs.Seconds.{seconds_of}
-use Rattle.zone_values.specs.declared.change.ChangeTime.{ChangeTime}
-use Rattle.zone_values.specs.declared.change.ChangeTime.TheVariants.{UntilYear, UntilMonth, UntilDay, UntilTime}
-use Rattle.zone_values.specs.declared.day.DaySpec.{DaySpec}
-use Rattle.zone_values.specs.declared.day.DaySpec.TheVariants.{Ordinal}
-use Rattle.zone_values.specs.declared.month.Month.{Month}
-use Rattle.zone_values.specs.declared.month.Month.TheVariants.{January}
-use Rattle.zone_values.specs.declared.time.TimeType.{TimeType}
-use Rattle.zone_values.specs.declared.time.TimeType.TheVariants.{Wall}
-use Rattle.zone_values.specs.declared.year.Year.{Year}
-use Rattle.zone_values.specs.declared.year.Year.TheVariants.{Number}
+use Rattle.zone_values.specs.{Days.{named_day, has_day_of_month, is_in_year}, Seconds.{seconds_of}, declared.change.ChangeTime.{ChangeTime}, declared.change.ChangeTime.TheVariants.{UntilYear, UntilMonth, UntilDay, UntilTime}, declared.day.DaySpec.{DaySpec}}
+use Rattle.zone_values.specs.declared.{day.DaySpec.TheVariants.{Ordinal}, month.Month.{Month}, month.Month.TheVariants.{January}, time.TimeType.{TimeType}, time.TimeType.TheVariants.{Wall}, year.Year.{Year}, year.Year.TheVariants.{Number}}
 
 abbrev pub end_year : ChangeTime → Year
 end_year (UntilYear y) = y

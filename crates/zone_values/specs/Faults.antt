@@ -1,12 +1,9 @@
 -- What is wrong with a line: a kind, and the text that is refused.
-use Rattle.std.specs.Prelude.{◌≡◌, ℕ, List, Option, Some, None, Result, Ok, Err, IfSome, string_bytes, codes}
-use Rattle.std.specs.Result.{result_map_both}
-use Rattle.zone_values.specs.Names.{lower}
-use Rattle.zone_values.specs.declared.error.Error.{Error}
+use Rattle.std.specs.{Prelude.{◌≡◌, ℕ, List, Option, Some, None, Result, Ok, Err, IfSome, string_bytes, codes}, Result.{result_map_both}}
+use Rattle.zone_values.specs.{Names.{lower}, declared.error.Error.{Error}, declared.fault.FaultKind.{FaultKind}}
+use Rattle.zone_values.specs.declared.fault.FaultKind.TheVariants.{FailedYearParse, FailedMonthParse, FailedWeekdayParse, InvalidLineType, TypeColumnContainedNonHyphen, CouldNotParseSaving, InvalidDaySpec, InvalidTimeSpecAndType, NonWallClockInTimeSpec}
 use Rattle.zone_values.specs.declared.error.Error.TheVariants as error
 use Rattle.zone_values.specs.declared.fault.Fault as code
-use Rattle.zone_values.specs.declared.fault.FaultKind.{FaultKind}
-use Rattle.zone_values.specs.declared.fault.FaultKind.TheVariants.{FailedYearParse, FailedMonthParse, FailedWeekdayParse, InvalidLineType, TypeColumnContainedNonHyphen, CouldNotParseSaving, InvalidDaySpec, InvalidTimeSpecAndType, NonWallClockInTimeSpec}
 
 pub record Fault : Type 0 where
   pub kind : FaultKind

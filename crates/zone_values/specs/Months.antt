@@ -1,9 +1,6 @@
 -- The months, by their names and numbers.
 use Rattle.std.specs.Prelude.{ℕ, List, Option, Some, None, ok_or, Result, ◌==◌, codes, if◌then◌else◌}
-use Rattle.zone_values.specs.Faults.{Fault, refused}
-use Rattle.zone_values.specs.declared.fault.FaultKind.TheVariants.{FailedMonthParse}
-use Rattle.zone_values.specs.Names.{is_name, lower}
-use Rattle.zone_values.specs.declared.month.Month.{Month}
+use Rattle.zone_values.specs.{Faults.{Fault, refused}, declared.fault.FaultKind.TheVariants.{FailedMonthParse}, Names.{is_name, lower}, declared.month.Month.{Month}}
 use Rattle.zone_values.specs.declared.month.Month.TheVariants.{January, February, March, April, May, June, July, August, September, October, November, December}
 
 -- from 1 to 12

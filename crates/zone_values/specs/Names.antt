@@ -1,6 +1,5 @@
 -- Names without regard to ASCII case.
-use Rattle.std.specs.Prelude.{ℕ, List, map, Bool, ◌||◌, bytes_eq}
-use Rattle.std.specs.Char.{to_ascii_lowercase}
+use Rattle.std.specs.{Prelude.{ℕ, List, map, Bool, ◌||◌, bytes_eq}, Char.{to_ascii_lowercase}}
 
 -- the text in ASCII lower case
 abbrev pub lower : List ℕ → List ℕ

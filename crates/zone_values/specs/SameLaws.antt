@@ -1,7 +1,8 @@
 -- Values that are found to be the same by `==` are one value.
-use Rattle.std.proofs.Common.{◌≡◌, true, ◌&&◌, ap, rules}
-use Rattle.std.proofs.lemmas.Bool.{and_parts}
+use Rattle.std.proofs.{Common.{◌≡◌, true, ◌&&◌, ap, rules}, lemmas.Bool.{and_parts}}
 use Rattle.basics.specs.LogicLaws.{no_case}
+use Rattle.zone_values.specs.declared.{change.ChangeTime.{ChangeTime}, change.ChangeTime.TheVariants.{UntilYear, UntilMonth, UntilDay, UntilTime}, day.DaySpec.{DaySpec}, month.Month.{Month}, time.TimeSpec.{TimeSpec}}
+use Rattle.zone_values.specs.declared.{time.TimeSpec.TheVariants.{Hours, HoursMinutes, HoursMinutesSeconds, Zero}, time.TimeSpecAndType.{TimeSpecAndType}, time.TimeType.{TimeType}, year.Year.{Year}}
 use Rattle.zone_values.specs.contracts.change.ChangeTimePartialEq.TheImpl as of_end
 use Rattle.zone_values.specs.contracts.day.DaySpecPartialEq.TheImpl as of_day
 use Rattle.zone_values.specs.contracts.month.MonthPartialEq.TheImpl as of_month
@@ -9,15 +10,6 @@ use Rattle.zone_values.specs.contracts.time.TimeSpecAndTypePartialEq.TheImpl as 
 use Rattle.zone_values.specs.contracts.time.TimeSpecPartialEq.TheImpl as of_time
 use Rattle.zone_values.specs.contracts.time.TimeTypePartialEq.TheImpl as of_clock
 use Rattle.zone_values.specs.contracts.year.YearPartialEq.TheImpl as of_year
-use Rattle.zone_values.specs.declared.change.ChangeTime.{ChangeTime}
-use Rattle.zone_values.specs.declared.change.ChangeTime.TheVariants.{UntilYear, UntilMonth, UntilDay, UntilTime}
-use Rattle.zone_values.specs.declared.day.DaySpec.{DaySpec}
-use Rattle.zone_values.specs.declared.month.Month.{Month}
-use Rattle.zone_values.specs.declared.time.TimeSpec.{TimeSpec}
-use Rattle.zone_values.specs.declared.time.TimeSpec.TheVariants.{Hours, HoursMinutes, HoursMinutesSeconds, Zero}
-use Rattle.zone_values.specs.declared.time.TimeSpecAndType.{TimeSpecAndType}
-use Rattle.zone_values.specs.declared.time.TimeType.{TimeType}
-use Rattle.zone_values.specs.declared.year.Year.{Year}
 
 pub time_is : (a b : TimeSpec) → of_time.ghosts.eq a b ≡ true → a ≡ b
 time_is (Hours a0) (Hours b0) h = search rules

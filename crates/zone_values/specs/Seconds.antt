@@ -1,9 +1,6 @@
 -- How many seconds a written time is.
 use Rattle.std.specs.Prelude.{ℤ, pos, ◌+ℤ◌, ◌*ℤ◌}
-use Rattle.zone_values.specs.declared.time.TimeSpec.{TimeSpec}
-use Rattle.zone_values.specs.declared.time.TimeSpec.TheVariants.{Hours, HoursMinutes, HoursMinutesSeconds, Zero}
-use Rattle.zone_values.specs.declared.time.TimeType.{TimeType}
-use Rattle.zone_values.specs.declared.time.TimeSpecAndType.{TimeSpecAndType}
+use Rattle.zone_values.specs.declared.time.{TimeSpec.{TimeSpec}, TimeSpec.TheVariants.{Hours, HoursMinutes, HoursMinutesSeconds, Zero}, TimeType.{TimeType}, TimeSpecAndType.{TimeSpecAndType}}
 
 -- the hours, minutes and seconds as seconds
 abbrev pub seconds_of : TimeSpec → ℤ

@@ -1,17 +1,10 @@
 -- The values of lines, with their texts as bytes.
 use Rattle.std.specs.Prelude.{ℕ, List, Option, option_map}
+use Rattle.zone_values.specs.declared.{line.ZoneInfo.{ZoneInfo}, line.Rule.{Rule}, time.TimeSpec.{TimeSpec}, time.TimeSpecAndType.{TimeSpecAndType}, change.ChangeTime.{ChangeTime}, day.DaySpec.{DaySpec}, month.Month.{Month}, year.Year.{Year}}
 use Rattle.zone_values.specs.declared.line.Saving as code_saving
 use Rattle.zone_values.specs.declared.line.Saving.TheVariants as saving
-use Rattle.zone_values.specs.declared.line.ZoneInfo.{ZoneInfo}
-use Rattle.zone_values.specs.declared.line.Rule.{Rule}
 use Rattle.zone_values.specs.declared.line.Line as code_line
 use Rattle.zone_values.specs.declared.line.Line.TheVariants as line
-use Rattle.zone_values.specs.declared.time.TimeSpec.{TimeSpec}
-use Rattle.zone_values.specs.declared.time.TimeSpecAndType.{TimeSpecAndType}
-use Rattle.zone_values.specs.declared.change.ChangeTime.{ChangeTime}
-use Rattle.zone_values.specs.declared.day.DaySpec.{DaySpec}
-use Rattle.zone_values.specs.declared.month.Month.{Month}
-use Rattle.zone_values.specs.declared.year.Year.{Year}
 
 pub data SavingValue : Type 0 where
   no_saving : SavingValue

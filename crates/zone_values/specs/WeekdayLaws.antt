@@ -1,13 +1,7 @@
 -- The weekdays' numbers are below 7, and where among seven days one with a weekday stands.
-use Rattle.std.proofs.Common.{◌≡◌, ℕ, ◌+◌, ◌-◌, ◌%◌, ◌<◌, ℤ, pos, ◌+ℤ◌, ap, arith, nat_eq, eq-eqb}
-use Rattle.std.proofs.lemmas.Bool.Decides.{nat_tests}
-use Rattle.basics.specs.DateLaws.{last_with-is}
-use Rattle.basics.specs.WeekdayLaws.{weekday_of-later, weekday_of-small}
-use Rattle.basics.specs.Weekdays.{weekday_of}
-use Rattle.zone_values.specs.Days.{first_from}
-use Rattle.zone_values.specs.Weekdays.{weekday_number}
-use Rattle.zone_values.specs.declared.weekday.Weekday.{Weekday}
-use Rattle.zone_values.specs.declared.weekday.Weekday.TheVariants.{Sunday, Monday, Tuesday, Wednesday, Thursday, Friday, Saturday}
+use Rattle.std.proofs.{Common.{◌≡◌, ℕ, ◌+◌, ◌-◌, ◌%◌, ◌<◌, ℤ, pos, ◌+ℤ◌, ap, arith, nat_eq, eq-eqb}, lemmas.Bool.Decides.{nat_tests}}
+use Rattle.basics.specs.{DateLaws.{last_with-is}, WeekdayLaws.{weekday_of-later, weekday_of-small}, Weekdays.{weekday_of}}
+use Rattle.zone_values.specs.{Days.{first_from}, Weekdays.{weekday_number}, declared.weekday.Weekday.{Weekday}, declared.weekday.Weekday.TheVariants.{Sunday, Monday, Tuesday, Wednesday, Thursday, Friday, Saturday}}
 
 pub weekday_number-small : (w : Weekday) → weekday_number w < 7
 weekday_number-small Sunday = omega arith

@@ -1,9 +1,6 @@
 -- The days of the week, by their names.
 use Rattle.std.specs.Prelude.{ℕ, List, Option, Some, None, ok_or, Result, codes, if◌then◌else◌}
-use Rattle.zone_values.specs.Faults.{Fault, refused}
-use Rattle.zone_values.specs.declared.fault.FaultKind.TheVariants.{FailedWeekdayParse}
-use Rattle.zone_values.specs.Names.{is_name, lower}
-use Rattle.zone_values.specs.declared.weekday.Weekday.{Weekday}
+use Rattle.zone_values.specs.{Faults.{Fault, refused}, declared.fault.FaultKind.TheVariants.{FailedWeekdayParse}, Names.{is_name, lower}, declared.weekday.Weekday.{Weekday}}
 use Rattle.zone_values.specs.declared.weekday.Weekday.TheVariants.{Sunday, Monday, Tuesday, Wednesday, Thursday, Friday, Saturday}
 
 -- Sunday is 0

@@ -1,11 +1,7 @@
 -- The years, by their texts.
 use Rattle.std.specs.Prelude.{ℕ, ◌^◌, List, Option, Some, option_map, ok_or, Result, codes, if◌then◌else◌}
-use Rattle.zone_values.specs.Faults.{Fault, refused}
-use Rattle.zone_values.specs.declared.fault.FaultKind.TheVariants.{FailedYearParse}
-use Rattle.zone_values.specs.Names.{is_name}
+use Rattle.zone_values.specs.{Faults.{Fault, refused}, declared.fault.FaultKind.TheVariants.{FailedYearParse}, Names.{is_name}, declared.year.Year.{Year}, declared.year.Year.TheVariants.{Minimum, Maximum, Number}}
 use Rattle.basics.specs.Numbers.{signed_in}
-use Rattle.zone_values.specs.declared.year.Year.{Year}
-use Rattle.zone_values.specs.declared.year.Year.TheVariants.{Minimum, Maximum, Number}
 
 -- the first or the last of all years, or the number of 64 bits that Rust reads
 unfoldable pub year_named : List ℕ → Option Year

@@ -1,7 +1,6 @@
 //! The ends of zone lines.
 ghost use Rattle.std.specs.Prelude.{◌≡◌, pos, neg_ℤ, ◌≤ℤ◌, IsTrue};
-ghost use Rattle.zone_values.specs.Days.{has_day_of_month, is_in_year};
-ghost use Rattle.zone_values.specs.Ends.{end_year, end_month, end_day, end_seconds, time_type, year_number, is_dated_year, day_of_end, is_dated, wall};
+ghost use Rattle.zone_values.specs.{Days.{has_day_of_month, is_in_year}, Ends.{end_year, end_month, end_day, end_seconds, time_type, year_number, is_dated_year, day_of_end, is_dated, wall}};
 
 use crate::day::DaySpec;
 use crate::month::Month;

@@ -1,10 +1,7 @@
 //! Days of a month, as rules and ends name them.
 ghost use Rattle.std.specs.Prelude.{◌≡◌, pos, neg_ℤ, ◌≤ℤ◌, nat_abs, IsTrue};
-ghost use Rattle.basics.specs.Days.{day as day_at, days_in_month};
-ghost use Rattle.basics.specs.Dates.{month_of, day_of};
-ghost use Rattle.zone_values.specs.Days.{is_day_of_month, has_day_of_month, named_day, is_in_year, first_from, last_up_to, concrete_day};
-ghost use Rattle.zone_values.specs.Weekdays.{weekday_number};
-ghost use Rattle.zone_values.specs.Months.{month_number, month_numbered};
+ghost use Rattle.basics.specs.{Days.{day as day_at, days_in_month}, Dates.{month_of, day_of}};
+ghost use Rattle.zone_values.specs.{Days.{is_day_of_month, has_day_of_month, named_day, is_in_year, first_from, last_up_to, concrete_day}, Weekdays.{weekday_number}, Months.{month_number, month_numbered}};
 
 use crate::month::Month;
 use crate::weekday::Weekday;

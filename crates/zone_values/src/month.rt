@@ -1,7 +1,6 @@
 //! Months.
 ghost use Rattle.std.specs.Prelude.{◌≡◌, ◌≤◌, pos, ◌≤ℤ◌};
-ghost use Rattle.zone_values.specs.Faults.{Tells, told};
-ghost use Rattle.zone_values.specs.Months.{month_number, month_numbered, month_field};
+ghost use Rattle.zone_values.specs.{Faults.{Tells, told}, Months.{month_number, month_numbered, month_field}};
 
 use crate::error::Error;
 use crate::fault::{Fault, FaultKind, or_error, value_or_fault};

@@ -1,7 +1,6 @@
 //! Days of the week.
 ghost use Rattle.std.specs.Prelude.{◌≡◌, ◌<◌};
-ghost use Rattle.zone_values.specs.Faults.{Tells, told};
-ghost use Rattle.zone_values.specs.Weekdays.{weekday_number, weekday_field};
+ghost use Rattle.zone_values.specs.{Faults.{Tells, told}, Weekdays.{weekday_number, weekday_field}};
 
 use crate::error::Error;
 use crate::fault::{Fault, FaultKind, or_error, value_or_fault};

@@ -1,17 +1,13 @@
 //! Years, and the words by which columns name years, months and weekdays.
 ghost use Rattle.std.specs.Prelude.{◌≡◌, bytes_eq};
-ghost use Rattle.zone_values.specs.Faults.{Tells, told};
-ghost use Rattle.zone_values.specs.Years.{year_field, year_named};
-ghost use Rattle.zone_values.specs.Names.{is_name, lower};
-ghost use Rattle.zone_values.specs.Months.{month_named};
-ghost use Rattle.zone_values.specs.Weekdays.{weekday_named};
+ghost use Rattle.zone_values.specs.{Faults.{Tells, told}, Years.{year_field, year_named}, Names.{is_name, lower}, Months.{month_named}, Weekdays.{weekday_named}};
 
 use crate::error::Error;
 use crate::fault::{Fault, FaultKind, or_error, value_or_fault};
 use crate::month::Month;
 use crate::weekday::Weekday;
-use std::alloc::Global;
 use basics::i64_in;
+use std::alloc::Global;
 
 /// A year, or the first or the last of all years.
 #[derive(Clone, Copy, Debug, PartialEq)]

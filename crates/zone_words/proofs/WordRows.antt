@@ -1,29 +1,15 @@
 -- What lines of words ask, with a bar between the words: each command and each option, and each fault.
-use Rattle.std.proofs.Common.{◌≡◌, refl, map, ◌==◌, ℕ, Bool, true, false, List, [], ◌∷◌, Option, Some, None, Ok, Err, pos}
-use Rattle.std.specs.Prelude.{codes}
-use Rattle.std.specs.List.{slice_split}
-use Rattle.basics.specs.Days.{is_leap, days_in_year, days_in_month, days_after_zero, days_before_zero, year_start, days_through, days_into_year, day}
-use Rattle.civil_base.specs.Clock.{time_at}
-use Rattle.civil_base.specs.Layout.{day_part, time_part}
-use Rattle.basics.specs.Numbers.{value_in}
-use Rattle.zone_moments.specs.Numbers.{moment, seconds_east, counted}
-use Rattle.zone_moments.specs.Pieces.{digit_at, two_at, four_at, date_at, minute_at, second_at, offset_at}
-use Rattle.zone_moments.specs.Readings.{digits_at, fraction_at, front_at, seconds_at, moment_in, local_in, in_years, zoned_at, zoned_in, size_at, count_at, count_in, counted_in, written_in, instant_in, asked_in}
-use Rattle.zone_moments.specs.declared.answer_form.AnswerForm.{AnswerForm}
-use Rattle.zone_moments.specs.declared.answer_form.AnswerForm.TheVariants.{People, Rfc3339, Epoch, Json}
-use Rattle.zone_moments.specs.declared.fault.TextFault.{TextFault}
+use Rattle.std.{proofs.Common.{◌≡◌, refl, map, ◌==◌, ℕ, Bool, true, false, List, [], ◌∷◌, Option, Some, None, Ok, Err, pos}, specs.Prelude.{codes}, specs.List.{slice_split}}
+use Rattle.basics.specs.{Days.{is_leap, days_in_year, days_in_month, days_after_zero, days_before_zero, year_start, days_through, days_into_year, day}, Numbers.{value_in}}
+use Rattle.civil_base.specs.{Clock.{time_at}, Layout.{day_part, time_part}}
+use Rattle.zone_moments.specs.{Numbers.{moment, seconds_east, counted}, Pieces.{digit_at, two_at, four_at, date_at, minute_at, second_at, offset_at}}
+use Rattle.zone_moments.specs.{Readings.{digits_at, fraction_at, front_at, seconds_at, moment_in, local_in, in_years, zoned_at, zoned_in, size_at, count_at, count_in, counted_in, written_in, instant_in, asked_in}, declared.answer_form.AnswerForm.{AnswerForm}}
+use Rattle.zone_moments.specs.declared.{answer_form.AnswerForm.TheVariants.{People, Rfc3339, Epoch, Json}, fault.TextFault.{TextFault}}
 use Rattle.zone_moments.specs.declared.fault.TextFault.TheVariants as text
-use Rattle.zone_words.specs.Arguments.{task_in}
-use Rattle.zone_words.specs.Faults.{Reading}
-use Rattle.zone_words.specs.Sorted.{put_any, put_option, put_word}
-use Rattle.zone_words.specs.Tasks.{TaskAsked, WordsAsked, help, version, at_instants, local_time, converted, list_changes, alarm, names, stream, log, tree, file, posix_string, chart}
-use Rattle.zone_words.specs.Values.{date_in, time_in, number_of, year_of}
-use Rattle.zone_words.specs.Words.{words_in}
-use Rattle.zone_words.specs.declared.command.Command.TheVariants.{At}
-use Rattle.zone_words.specs.declared.fault.WordCause.{WordCause}
+use Rattle.zone_words.specs.{Arguments.{task_in}, Faults.{Reading}, Sorted.{put_any, put_option, put_word}}
+use Rattle.zone_words.specs.{Tasks.{TaskAsked, WordsAsked, help, version, at_instants, local_time, converted, list_changes, alarm, names, stream, log, tree, file, posix_string, chart}, Values.{date_in, time_in, number_of, year_of}, Words.{words_in}}
+use Rattle.zone_words.specs.declared.{command.Command.TheVariants.{At}, fault.WordCause.{WordCause}, task.FoldRule.TheVariants.{First, Second, Both}, task.GapRule.TheVariants.{Skip, Before, After}}
 use Rattle.zone_words.specs.declared.fault.WordCause.TheVariants as cause
-use Rattle.zone_words.specs.declared.task.FoldRule.TheVariants.{First, Second, Both}
-use Rattle.zone_words.specs.declared.task.GapRule.TheVariants.{Skip, Before, After}
 
 abbrev line : List ℕ → List (List ℕ)
 line text = slice_split (λ c. c == 124) text

@@ -1,16 +1,8 @@
 -- The words of an alarm.
-use Rattle.std.specs.Prelude.{ℕ, ◌==◌, Bool, true, ◌&&◌, ◌||◌, List, [], ◌∷◌, Option, Some, None, is_none, Ok, ℤ, int_lt, bytes_eq, codes, if◌then◌else◌}
-use Rattle.std.specs.List.{list_all, list_any, slice_split}
-use Rattle.std.specs.Option.{option_map_or}
-use Rattle.zone_words.specs.Faults.{Reading, wrong, ◌>>=◌}
-use Rattle.zone_words.specs.Options.{GivenOption, value_of}
-use Rattle.zone_words.specs.Tasks.{AlarmAsked}
-use Rattle.zone_words.specs.Values.{date_in, number_in, time_in}
-use Rattle.zone_words.specs.declared.fault.WordCause.TheVariants.{BeforeFirst, EndMissing, FirstMissing, FoldRule as BadFoldRule, GapRule as BadGapRule, Weekdays}
-use Rattle.zone_words.specs.declared.task.FoldRule.{FoldRule}
-use Rattle.zone_words.specs.declared.task.FoldRule.TheVariants.{First, Second, Both}
-use Rattle.zone_words.specs.declared.task.GapRule.{GapRule}
-use Rattle.zone_words.specs.declared.task.GapRule.TheVariants.{Skip, Before, After}
+use Rattle.std.specs.{Prelude.{ℕ, ◌==◌, Bool, true, ◌&&◌, ◌||◌, List, [], ◌∷◌, Option, Some, None, is_none, Ok, ℤ, int_lt, bytes_eq, codes, if◌then◌else◌}, List.{list_all, list_any, slice_split}, Option.{option_map_or}}
+use Rattle.zone_words.specs.{Faults.{Reading, wrong, ◌>>=◌}, Options.{GivenOption, value_of}, Tasks.{AlarmAsked}, Values.{date_in, number_in, time_in}}
+use Rattle.zone_words.specs.declared.{fault.WordCause.TheVariants.{BeforeFirst, EndMissing, FirstMissing, FoldRule as BadFoldRule, GapRule as BadGapRule, Weekdays}, task.FoldRule.{FoldRule}, task.FoldRule.TheVariants.{First, Second, Both}}
+use Rattle.zone_words.specs.declared.task.GapRule.{GapRule, TheVariants.{Skip, Before, After}}
 
 abbrev pub is_comma : ℕ → Bool
 is_comma byte = byte == 44

@@ -1,13 +1,9 @@
 -- The words behind a command.
 use Rattle.std.specs.Prelude.{ℕ, ◌-◌, List, [], ◌∷◌, length, take, slice_index_or, Option, Some, None, Ok, nat_lt, codes, if◌then◌else◌}
-use Rattle.zone_words.specs.Alarms.{alarm_in, if_told}
-use Rattle.zone_words.specs.Faults.{Reading, wrong, ◌>>=◌}
-use Rattle.zone_words.specs.Options.{GivenOption, has, value_of}
-use Rattle.zone_words.specs.Tasks.{TaskAsked, Word, alarm, at_instants, chart, converted, file, list_changes, local_time, log, names, posix_string, stream, tree}
-use Rattle.zone_words.specs.Values.{instant_in, instants_in, number_in, text_in, year_in}
-use Rattle.zone_words.specs.declared.command.Command.{Command}
+use Rattle.zone_words.specs.{Alarms.{alarm_in, if_told}, Faults.{Reading, wrong, ◌>>=◌}, Options.{GivenOption, has, value_of}}
+use Rattle.zone_words.specs.{Tasks.{TaskAsked, Word, alarm, at_instants, chart, converted, file, list_changes, local_time, log, names, posix_string, stream, tree}, Values.{instant_in, instants_in, number_in, text_in, year_in}}
+use Rattle.zone_words.specs.declared.{command.Command.{Command}, fault.WordCause.TheVariants.{TooFew, TooMany}}
 use Rattle.zone_words.specs.declared.command.Command.TheVariants as command
-use Rattle.zone_words.specs.declared.fault.WordCause.TheVariants.{TooFew, TooMany}
 
 -- what is asked where no word stands behind
 abbrev pub alone : List Word → TaskAsked → Reading TaskAsked

@@ -1,7 +1,6 @@
 -- The commands, and which options each takes.
 use Rattle.std.specs.Prelude.{ℕ, Bool, true, false, ◌||◌, List, Option, Some, None, bytes_eq, codes, if◌then◌else◌}
-use Rattle.zone_words.specs.declared.command.Command.{Command}
-use Rattle.zone_words.specs.declared.command.Command.TheVariants.{At, Local, Convert, List as ListOf, Alarm, Names, Stream, Log, Tree, File, String, Chart}
+use Rattle.zone_words.specs.declared.command.Command.{Command, TheVariants.{At, Local, Convert, List as ListOf, Alarm, Names, Stream, Log, Tree, File, String, Chart}}
 
 abbrev pub command_named : List ℕ → Option Command
 command_named word =

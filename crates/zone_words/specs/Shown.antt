@@ -1,15 +1,7 @@
 -- What the words that were sorted show.
-use Rattle.std.specs.Prelude.{ℕ, List, map, Result, Ok, Err}
-use Rattle.std.specs.Borrow.{Bor}
-use Rattle.zone_words.specs.Faults.{Reading}
-use Rattle.zone_words.specs.Options.{GivenOption}
-use Rattle.zone_words.specs.Sorted.{Next, any, behind, plain, SortedWords}
-use Rattle.zone_words.specs.Told.{fault_shown}
-use Rattle.zone_words.specs.declared.fault.WordFault.{WordFault}
-use Rattle.zone_words.specs.declared.given.Given.{Given}
-use Rattle.zone_words.specs.declared.sorted.Expected.{Expected}
-use Rattle.zone_words.specs.declared.sorted.Expected.TheVariants.{Any, Behind, Plain}
-use Rattle.zone_words.specs.declared.sorted.Sorted.{Sorted}
+use Rattle.std.specs.{Prelude.{ℕ, List, map, Result, Ok, Err}, Borrow.{Bor}}
+use Rattle.zone_words.specs.{Faults.{Reading}, Options.{GivenOption}, Sorted.{Next, any, behind, plain, SortedWords}, Told.{fault_shown}, declared.fault.WordFault.{WordFault}, declared.given.Given.{Given}, declared.sorted.Expected.{Expected}}
+use Rattle.zone_words.specs.declared.sorted.{Expected.TheVariants.{Any, Behind, Plain}, Sorted.{Sorted}}
 
 abbrev pub word_shown : Bor (List ℕ) → List ℕ
 word_shown word = word.now

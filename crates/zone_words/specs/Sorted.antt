@@ -1,8 +1,6 @@
 -- The words sorted: options with the words behind them, and the others, each in their order.
 use Rattle.std.specs.Prelude.{ℕ, List, [], ◌∷◌, ◌++◌, Ok, bytes_eq, codes, if◌then◌else◌}
-use Rattle.zone_words.specs.Faults.{Reading, wrong, ◌>>=◌}
-use Rattle.zone_words.specs.Options.{GivenOption, is_among, is_flag, is_option, is_valued}
-use Rattle.zone_words.specs.declared.fault.WordCause.TheVariants.{UnknownOption, ValueMissing, Twice}
+use Rattle.zone_words.specs.{Faults.{Reading, wrong, ◌>>=◌}, Options.{GivenOption, is_among, is_flag, is_option, is_valued}, declared.fault.WordCause.TheVariants.{UnknownOption, ValueMissing, Twice}}
 
 -- what the next word may be: anything; the word behind an option; a word that is no option, since `--` stands before it
 pub data Next : Type 0 where

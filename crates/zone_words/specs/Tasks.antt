@@ -1,9 +1,7 @@
 -- What words ask.
 use Rattle.std.specs.Prelude.{ℕ, Bool, List, Option, ℤ}
 use Rattle.zone_moments.specs.declared.answer_form.AnswerForm.{AnswerForm}
-use Rattle.zone_words.specs.declared.command.Command.{Command}
-use Rattle.zone_words.specs.declared.task.FoldRule.{FoldRule}
-use Rattle.zone_words.specs.declared.task.GapRule.{GapRule}
+use Rattle.zone_words.specs.declared.{command.Command.{Command}, task.FoldRule.{FoldRule}, task.GapRule.{GapRule}}
 
 abbrev pub Word : Type 0
 Word = List ℕ

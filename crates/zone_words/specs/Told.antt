@@ -1,9 +1,6 @@
 -- What the code's results tell.
 use Rattle.std.specs.Prelude.{◌≡◌, Bool, true, false, option_map, Result, Ok, Err}
-use Rattle.zone_words.specs.Faults.{Fault, Reading}
-use Rattle.zone_words.specs.declared.fault.WordCause.{WordCause}
-use Rattle.zone_words.specs.declared.fault.WordCause.TheVariants.{BeforeFirst, NoMemory, Text, Year}
-use Rattle.zone_words.specs.declared.fault.WordFault.{WordFault}
+use Rattle.zone_words.specs.{Faults.{Fault, Reading}, declared.fault.WordCause.{WordCause}, declared.fault.WordCause.TheVariants.{BeforeFirst, NoMemory, Text, Year}, declared.fault.WordFault.{WordFault}}
 
 abbrev pub fault_shown : WordFault → Fault
 fault_shown fault = record { word = fault.word.now; more = option_map (λ word. word.now) fault.more; cause = fault.cause }

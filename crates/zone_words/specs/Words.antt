@@ -1,15 +1,7 @@
 -- What words ask, or their first fault.
-use Rattle.std.specs.Prelude.{List, [], ◌∷◌, Option, Some, None, Ok, codes, if◌then◌else◌}
-use Rattle.std.specs.Option.{option_map_or}
-use Rattle.zone_moments.specs.declared.answer_form.AnswerForm.{AnswerForm}
-use Rattle.zone_moments.specs.declared.answer_form.AnswerForm.TheVariants.{People, Rfc3339, Epoch, Json}
-use Rattle.zone_words.specs.Arguments.{task_in}
-use Rattle.zone_words.specs.Commands.{command_named, takes}
-use Rattle.zone_words.specs.Faults.{Reading, wrong, ◌>>=◌}
-use Rattle.zone_words.specs.Options.{GivenOption, has, value_of}
-use Rattle.zone_words.specs.Sorted.{sorted}
-use Rattle.zone_words.specs.Tasks.{TaskAsked, Word, WordsAsked, help, version}
-use Rattle.zone_words.specs.declared.command.Command.{Command}
+use Rattle.std.specs.{Prelude.{List, [], ◌∷◌, Option, Some, None, Ok, codes, if◌then◌else◌}, Option.{option_map_or}}
+use Rattle.zone_moments.specs.declared.answer_form.AnswerForm.{AnswerForm, TheVariants.{People, Rfc3339, Epoch, Json}}
+use Rattle.zone_words.specs.{Arguments.{task_in}, Commands.{command_named, takes}, Faults.{Reading, wrong, ◌>>=◌}, Options.{GivenOption, has, value_of}, Sorted.{sorted}, Tasks.{TaskAsked, Word, WordsAsked, help, version}, declared.command.Command.{Command}}
 use Rattle.zone_words.specs.declared.fault.WordCause.TheVariants.{CommandMissing, OtherOption, UnknownCommand}
 
 -- for people where no form is told

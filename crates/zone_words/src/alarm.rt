@@ -1,8 +1,6 @@
 //! The words of an alarm.
 ghost use Rattle.std.specs.Prelude.{◌≡◌, map, option_map};
-ghost use Rattle.zone_words.specs.Alarms.{alarm_in, are_days, days_in, ending_in, days_of, every_in, first_in, fold_in, fold_rule, gap_in, gap_rule, has_day, is_day, last_in, ringing_in, until_in};
-ghost use Rattle.zone_words.specs.Shown.{given_shown, word_shown};
-ghost use Rattle.zone_words.specs.TaskShown.{alarm_shown};
+ghost use Rattle.zone_words.specs.{Alarms.{alarm_in, are_days, days_in, ending_in, days_of, every_in, first_in, fold_in, fold_rule, gap_in, gap_rule, has_day, is_day, last_in, ringing_in, until_in}, Shown.{given_shown, word_shown}, TaskShown.{alarm_shown}};
 ghost use Rattle.zone_words.specs.Told.{Reads};
 
 use crate::given::{Given, value_of};

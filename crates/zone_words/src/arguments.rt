@@ -1,9 +1,6 @@
 //! The words behind a command.
 ghost use Rattle.std.specs.Prelude.{◌≡◌, [], map, option_map};
-ghost use Rattle.zone_words.specs.Arguments.{alone, at_in, changes_in, chart_in, convert_in, list_in, local_in, maybe_in, one_in, task_in, two_in, zone_alarm_in, zone_log_in};
-ghost use Rattle.zone_words.specs.Shown.{given_shown, word_shown};
-ghost use Rattle.zone_words.specs.TaskShown.{task_shown};
-ghost use Rattle.zone_words.specs.Told.{Reads};
+ghost use Rattle.zone_words.specs.{Arguments.{alone, at_in, changes_in, chart_in, convert_in, list_in, local_in, maybe_in, one_in, task_in, two_in, zone_alarm_in, zone_log_in}, Shown.{given_shown, word_shown}, TaskShown.{task_shown}, Told.{Reads}};
 
 use crate::alarm::alarm_in;
 use crate::given::{Given, has};

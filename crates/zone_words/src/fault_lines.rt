@@ -1,7 +1,6 @@
 //! The line that tells a fault of words.
 ghost use Rattle.std.specs.Prelude.{◌≡◌, ◌++◌, ◌∷◌, [], IfOk, OnOk};
-ghost use Rattle.zone_words.specs.FaultLines.{cause_text, fault_line, quoted};
-ghost use Rattle.zone_words.specs.Told.{fault_shown};
+ghost use Rattle.zone_words.specs.{FaultLines.{cause_text, fault_line, quoted}, Told.{fault_shown}};
 
 use crate::{WordCause, WordFault};
 use std::alloc::{AllocError, Global};

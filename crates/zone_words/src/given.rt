@@ -1,7 +1,6 @@
 //! The options among the words.
 ghost use Rattle.std.specs.Prelude.{◌≡◌, map, option_map, is_some};
-ghost use Rattle.zone_words.specs.Options.{is_option, is_flag, is_valued, is_form, is_end, is_exclusive, is_among, value_of};
-ghost use Rattle.zone_words.specs.Shown.{given_shown};
+ghost use Rattle.zone_words.specs.{Options.{is_option, is_flag, is_valued, is_form, is_end, is_exclusive, is_among, value_of}, Shown.{given_shown}};
 
 /// An option that was given, with its word, or with nothing where it wants none.
 #[derive(Clone, Copy)]

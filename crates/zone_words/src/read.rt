@@ -1,9 +1,6 @@
 //! What words ask.
 ghost use Rattle.std.specs.Prelude.{◌≡◌, map, option_map, string_bytes};
-ghost use Rattle.zone_words.specs.Shown.{given_shown, word_shown};
-ghost use Rattle.zone_words.specs.TaskShown.{task_shown, words_shown};
-ghost use Rattle.zone_words.specs.Told.{Reads};
-ghost use Rattle.zone_words.specs.Words.{command_in, form_in, help_in, of_command, other_option, whole_task, words_in};
+ghost use Rattle.zone_words.specs.{Shown.{given_shown, word_shown}, TaskShown.{task_shown, words_shown}, Told.{Reads}, Words.{command_in, form_in, help_in, of_command, other_option, whole_task, words_in}};
 
 use crate::arguments::task_in;
 use crate::command::{command_named, takes};

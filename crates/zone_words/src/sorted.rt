@@ -1,8 +1,6 @@
 //! The words sorted: options with the words behind them, and the others.
 ghost use Rattle.std.specs.Prelude.{◌≡◌, ◌++◌, ◌∷◌, [], false, map, string_bytes, OnOk};
-ghost use Rattle.zone_words.specs.Shown.{given_shown, sorted_shown, stepped, word_shown};
-ghost use Rattle.zone_words.specs.Sorted.{none_sorted, put_any, put_option, put_word, sorted, step};
-ghost use Rattle.zone_words.specs.Told.{is_short, Reads};
+ghost use Rattle.zone_words.specs.{Shown.{given_shown, sorted_shown, stepped, word_shown}, Sorted.{none_sorted, put_any, put_option, put_word, sorted, step}, Told.{is_short, Reads}};
 
 use crate::given::{Given, is_among, is_flag, is_option, is_valued};
 use crate::{WordCause, WordFault};

@@ -1,18 +1,13 @@
 //! The values that words spell.
 ghost use Rattle.std.specs.Prelude.{◌≡◌, ◌++◌, ◌∷◌, [], IfOk, OnOk, map, string_bytes};
-ghost use Rattle.zone_moments.specs.Readings.{local_in};
-ghost use Rattle.zone_moments.specs.Shown.{asked};
-ghost use Rattle.zone_words.specs.Alarms.{if_told};
-ghost use Rattle.zone_words.specs.Options.{value_of};
-ghost use Rattle.zone_words.specs.Shown.{given_shown, word_shown};
-ghost use Rattle.zone_words.specs.Told.{Reads};
-ghost use Rattle.zone_words.specs.Values.{date_cause, date_in, instant_in, instants_in, number_in, number_of, of_one, of_two, text_in, time_in, year_in, year_of};
+ghost use Rattle.zone_moments.specs.{Readings.{local_in}, Shown.{asked}};
+ghost use Rattle.zone_words.specs.{Alarms.{if_told}, Options.{value_of}, Shown.{given_shown, word_shown}, Told.{Reads}, Values.{date_cause, date_in, instant_in, instants_in, number_in, number_of, of_one, of_two, text_in, time_in, year_in, year_of}};
 
 use crate::given::{Given, value_of};
 use crate::{WordCause, WordFault};
+use basics::{is_numeral, u16_of_digits};
 use civil_base::{Date, PlainDateTime, Time};
 use std::alloc::{AllocError, Global};
-use basics::{is_numeral, u16_of_digits};
 use zone_moments::{Asked, TextFault, read_instant, read_local};
 
 /// Two words as one text, with a space between them.

@@ -1,8 +1,5 @@
 //! Whole numbers: decimal digits, on the right where no alignment is set.
-ghost use Rattle.pad_fmt.specs.Sink.{WroteInPieces};
-ghost use Rattle.pad_fmt.specs.Exact.{is_exact_unsigned, is_exact_signed};
-ghost use Rattle.pad_fmt.specs.Number.{shown_unsigned, unsigned_width, shown_signed, signed_width};
-ghost use Rattle.pad_fmt.specs.NumberLaws.{unsigned_law, signed_law};
+ghost use Rattle.pad_fmt.specs.{Sink.{WroteInPieces}, Exact.{is_exact_unsigned, is_exact_signed}, Number.{shown_unsigned, unsigned_width, shown_signed, signed_width}, NumberLaws.{unsigned_law, signed_law}};
 
 use crate::number::{signed_width, unsigned_width, write_number};
 use crate::options::FormatterOptions;

@@ -1,10 +1,6 @@
 //! Texts, characters and truth values, on the left where no alignment is set.
-ghost use Rattle.std.specs.Prelude.{◌≡◌, encode_utf8};
-ghost use Rattle.std.specs.Cow.{cow_str_bytes};
-ghost use Rattle.std.specs.String.{string_bytes};
-ghost use Rattle.pad_fmt.specs.Sink.{WroteInPieces};
-ghost use Rattle.pad_fmt.specs.Exact.{is_exact_truth, is_exact_char, is_exact_text, is_exact_buffer};
-ghost use Rattle.pad_fmt.specs.Text.{shown_text, text_width, truth_text, truth_width, char_width, buffer_width};
+ghost use Rattle.std.specs.{Prelude.{◌≡◌, encode_utf8}, Cow.{cow_str_bytes}, String.{string_bytes}};
+ghost use Rattle.pad_fmt.specs.{Sink.{WroteInPieces}, Exact.{is_exact_truth, is_exact_char, is_exact_text, is_exact_buffer}, Text.{shown_text, text_width, truth_text, truth_width, char_width, buffer_width}};
 ghost use Rattle.pad_fmt.specs.TextLaws.{text_law, truth_law, char_law, buffer_law};
 
 use crate::buffer::WriteBuffer;

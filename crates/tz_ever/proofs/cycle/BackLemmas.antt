@@ -1,11 +1,7 @@
 -- What a set of one cycle past the place says of every instant after it: brought back by whole cycles, the total is that of the set.
 use Rattle.std.proofs.Common.{◌≡◌, [], ◌∷◌, false, pos, List, ◌++◌, ℤ, ◌+ℤ◌, ◌*ℤ◌, ℕ, ◌+◌, int_le, ◌<ℤ◌}
-use Rattle.zone_spans.specs.Entries.{total, sorted_entries_over}
-use Rattle.zone_spans.specs.Lines.{Line}
-use Rattle.zone_spans.specs.declared.span.FixedTimespan.{FixedTimespan}
-use Rattle.tz_ever.proofs.cycle.EverLemmas.{IsTurning}
-use Rattle.tz_ever.proofs.cycle.StableLemmas.{span-stable}
-use Rattle.tz_ever.proofs.cycle.ZoneLemmas.{span_in}
+use Rattle.zone_spans.specs.{Entries.{total, sorted_entries_over}, Lines.{Line}, declared.span.FixedTimespan.{FixedTimespan}}
+use Rattle.tz_ever.proofs.cycle.{EverLemmas.{IsTurning}, StableLemmas.{span-stable}, ZoneLemmas.{span_in}}
 
 -- no entry from the place on can take the place of the latest one before it
 abbrev pub IsApart : {lines : List Line} {last : Line} {place : ℕ} → IsTurning lines last place → Type 0

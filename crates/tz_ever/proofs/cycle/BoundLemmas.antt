@@ -1,29 +1,13 @@
 -- No firing of a year comes long before the year begins, so what a zone shows before a year does not depend on the years from it on.
 use Rattle.std.proofs.Common.{◌≡◌, refl, [], ◌∷◌, map, true, false, pos, neg_ℤ, List, ◌++◌, arith, ◌≤◌, ℤ, ◌+ℤ◌, ◌*ℤ◌, unsigned_abs, ◌∙◌, sym, ℕ, ◌+◌, ◌≤ℤ◌, int_le, None, zero, suc, ap, ◌-ℤ◌, length, filter, inl, inr, subst, cond, reverse, ◌<ℤ◌}
 use Rattle.std.proofs.lemmas.Bool.{cases_Bool}
-use Rattle.basics.specs.ComparisonLaws.{le_from_pass, le_fail, lt_fail}
-use Rattle.basics.specs.Days.{day}
-use Rattle.basics.specs.MonthLaws.{days_through-two}
-use Rattle.basics.specs.SignedLaws.{signed, natural}
-use Rattle.basics.specs.YearLaws.{day-cycle, cycle_days-rise}
-use Rattle.zone_values.specs.Days.{named_day}
-use Rattle.zone_values.specs.declared.time.TimeType.{TimeType}
-use Rattle.zone_values.specs.declared.time.TimeType.TheVariants.{Wall, UTC, Standard}
-use Rattle.zone_table.specs.Moments.{instant_of, moment}
-use Rattle.zone_table.specs.declared.rule.RuleInfo.{RuleInfo}
-use Rattle.zone_spans.specs.Collapse.{kept_of}
-use Rattle.zone_spans.specs.Entries.{entry_of, Entry, total, sorted_entries_over}
-use Rattle.zone_spans.specs.Firings.{earliest, fired, year_firings, Fired, Firing, is_earlier}
-use Rattle.zone_spans.specs.Lines.{Line}
-use Rattle.zone_spans.specs.Years.{earliest_year}
-use Rattle.zone_spans.specs.declared.span.FixedTimespan.{FixedTimespan}
+use Rattle.basics.specs.{ComparisonLaws.{le_from_pass, le_fail, lt_fail}, Days.{day}, MonthLaws.{days_through-two}, SignedLaws.{signed, natural}, YearLaws.{day-cycle, cycle_days-rise}}
+use Rattle.zone_values.specs.{Days.{named_day}, declared.time.TimeType.{TimeType}, declared.time.TimeType.TheVariants.{Wall, UTC, Standard}}
+use Rattle.zone_table.specs.{Moments.{instant_of, moment}, declared.rule.RuleInfo.{RuleInfo}}
+use Rattle.zone_spans.specs.{Collapse.{kept_of}, Entries.{entry_of, Entry, total, sorted_entries_over}, Firings.{earliest, fired, year_firings, Fired, Firing, is_earlier}, Lines.{Line}, Years.{earliest_year}, declared.span.FixedTimespan.{FixedTimespan}}
+use Rattle.zone_spans.specs.{Later.{firings_from, first_fired, later_entries}, Settled.{are_settled, is_lasting}}
 use Rattle.tz_ever.specs.InForce.{has_come, span_by}
-use Rattle.zone_spans.specs.Later.{firings_from, first_fired, later_entries}
-use Rattle.zone_spans.specs.Settled.{are_settled, is_lasting}
-use Rattle.tz_ever.proofs.cycle.CollapseLemmas.{kept_of-more}
-use Rattle.tz_ever.proofs.cycle.FiringLemmas.{year_firings-settled}
-use Rattle.tz_ever.proofs.cycle.OrderLemmas.{AllFrom, later_entries-front}
-use Rattle.tz_ever.proofs.cycle.StableLemmas.{ahead, kept_ahead, kept_stays, none_has_come, none_replaces}
+use Rattle.tz_ever.proofs.cycle.{CollapseLemmas.{kept_of-more}, FiringLemmas.{year_firings-settled}, OrderLemmas.{AllFrom, later_entries-front}, StableLemmas.{ahead, kept_ahead, kept_stays, none_has_come, none_replaces}}
 use Rattle.tz_ever.proofs.cycle.ZoneLemmas.{AddsBehind, sorted_entries_over-more, span_in, span_in-is}
 
 -- the rule's day lies in the year or later, and its numbers are small

@@ -1,9 +1,6 @@
 -- What the collapse keeps of entries a cycle later is what it keeps of them, a cycle later.
-use Rattle.std.proofs.Common.{◌≡◌, List, [], ◌∷◌, ℤ, refl, Bool, ap, ◌∙◌, arith, ◌+ℤ◌, true, false, ◌++◌, map, sym, int_le, cond, append_assoc}
-use Rattle.std.proofs.lemmas.Int.{ints}
-use Rattle.zone_spans.specs.Collapse.{is_no_later, is_same_span, kept_of, kept_with}
-use Rattle.zone_spans.specs.Entries.{Entry, total}
-use Rattle.zone_spans.specs.Cycle.{entry_on, seconds_on}
+use Rattle.std.proofs.{Common.{◌≡◌, List, [], ◌∷◌, ℤ, refl, Bool, ap, ◌∙◌, arith, ◌+ℤ◌, true, false, ◌++◌, map, sym, int_le, cond, append_assoc}, lemmas.Int.{ints}}
+use Rattle.zone_spans.specs.{Collapse.{is_no_later, is_same_span, kept_of, kept_with}, Entries.{Entry, total}, Cycle.{entry_on, seconds_on}}
 
 pub local_on : (a b s t : ℤ) → int_le (seconds_on a +ℤ s) (seconds_on b +ℤ t) ≡ int_le (a +ℤ s) (b +ℤ t)
 local_on a b s t = grind (arith, ints)

@@ -1,11 +1,6 @@
 -- The calendar repeats after 400 years, which are 146,097 days or 20,871 weeks.
-use Rattle.std.proofs.Common.{◌≡◌, ℤ, pos, refl, ℕ, zero, suc, arith, ◌+ℤ◌, ◌≤ℤ◌, ◌+◌, ◌-◌, unsigned_abs}
-use Rattle.std.proofs.lemmas.Bool.Decides.{nat_tests}
-use Rattle.basics.specs.Cycles.{cycle_days}
-use Rattle.basics.specs.Days.{days_through, day, is_leap, days_in_month}
-use Rattle.basics.specs.SignedLaws.{signed, natural, floored}
-use Rattle.basics.specs.Weekdays.{weekday_of}
-use Rattle.basics.specs.YearLaws.{day-cycle}
+use Rattle.std.proofs.{Common.{◌≡◌, ℤ, pos, refl, ℕ, zero, suc, arith, ◌+ℤ◌, ◌≤ℤ◌, ◌+◌, ◌-◌, unsigned_abs}, lemmas.Bool.Decides.{nat_tests}}
+use Rattle.basics.specs.{Cycles.{cycle_days}, Days.{days_through, day, is_leap, days_in_month}, SignedLaws.{signed, natural, floored}, Weekdays.{weekday_of}, YearLaws.{day-cycle}}
 use Rattle.zone_spans.specs.Cycle.{days_on, next_cycle}
 
 leap_later : (n : ℕ) → is_leap (pos (n + 400)) ≡ is_leap (pos n)

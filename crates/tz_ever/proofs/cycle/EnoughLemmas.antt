@@ -1,50 +1,18 @@
 -- Over any number of years that lies two years past an instant's, a zone that goes on shows the same there.
 use Rattle.std.proofs.Common.{◌≡◌, refl, [], ◌∷◌, map, true, false, pos, neg_ℤ, List, ◌++◌, arith, ◌≤◌, ℤ, ◌+ℤ◌, ◌*ℤ◌, unsigned_abs, ◌∙◌, sym, ℕ, ◌+◌, Bool, ◌&&◌, ◌≤ℤ◌, nat_le, Some, None, zero, suc, ap, ◌-ℤ◌, length, filter, ◌-◌, inl, inr, not, subst, cond, reverse, ◌<ℤ◌, Ok}
-use Rattle.std.proofs.lemmas.Bool.{and_parts}
-use Rattle.std.proofs.lemmas.Bool.Decides.{nat_tests}
-use Rattle.std.proofs.lemmas.List.{reverse-append}
-use Rattle.std.proofs.lemmas.List.Folds.{list_all-append}
-use Rattle.std.specs.List.{list_all}
-use Rattle.std.specs.Option.{option_map_or}
-use Rattle.basics.specs.Cycles.{cycle_days}
-use Rattle.basics.specs.Days.{day}
-use Rattle.basics.specs.MonthLaws.{days_through-two}
-use Rattle.basics.specs.SignedLaws.{signed}
-use Rattle.basics.specs.YearLaws.{day-cycle}
+use Rattle.std.proofs.lemmas.{Bool.{and_parts}, Bool.Decides.{nat_tests}, List.{reverse-append}, List.Folds.{list_all-append}}
+use Rattle.std.specs.{List.{list_all}, Option.{option_map_or}}
+use Rattle.basics.specs.{Cycles.{cycle_days}, Days.{day}, MonthLaws.{days_through-two}, SignedLaws.{signed}, YearLaws.{day-cycle}}
 use Rattle.civil_base.specs.Ranges.{is_offset}
-use Rattle.zone_values.specs.Bounds.{are_small_seconds}
-use Rattle.zone_values.specs.Days.{has_day_of_month}
-use Rattle.zone_values.specs.Ends.{end_day}
-use Rattle.zone_values.specs.declared.change.ChangeTime.{ChangeTime}
-use Rattle.zone_table.specs.Bounds.{is_bounded_rule, is_bounded_info, is_bounded_saving}
-use Rattle.zone_table.specs.Moments.{applies_to_year}
-use Rattle.zone_table.specs.declared.rule.RuleInfo.{RuleInfo}
-use Rattle.zone_table.specs.declared.zone.ZoneInfo.{ZoneInfo}
-use Rattle.zone_spans.specs.Bounds.{is_bounded_line}
-use Rattle.zone_spans.specs.Collapse.{is_no_later, is_same_span, kept_of, kept_with, collapsed, without_first}
-use Rattle.zone_spans.specs.Compiled.{compiled, compiled_over}
-use Rattle.zone_spans.specs.Entries.{entry_of, Entry, total, sorted_entries_over}
-use Rattle.zone_spans.specs.Firings.{earliest, fired, year_firings, Firing, is_earlier, firings_of_years}
-use Rattle.zone_spans.specs.Lines.{Line, Rulesets, zone_lines}
-use Rattle.zone_spans.specs.Schedules.{totals_of, total_at, is_in_offset_range, schedule_over}
-use Rattle.zone_spans.specs.Years.{earliest_year}
-use Rattle.zone_spans.specs.declared.span.FixedTimespan.{FixedTimespan}
-use Rattle.zone_spans.specs.declared.span.FixedTimespanSet.{FixedTimespanSet}
-use Rattle.tz_ever.specs.AnyYear.{AreEnough, IsFrom2101, instants_on, is_before_cycle, span_for_ever, span_told, total_for_ever, years_for}
-use Rattle.zone_spans.specs.GoesOn.{GoesOn, cycle_entries}
-use Rattle.tz_ever.specs.InForce.{has_come}
-use Rattle.zone_spans.specs.Later.{first_fired, later_entries, later_fired}
-use Rattle.tz_ever.proofs.cycle.BoundLemmas.{FiredFrom, entries_fire, firings_from-low, span-stable_years, year_low}
-use Rattle.tz_ever.proofs.cycle.CollapseLemmas.{kept_of-more}
-use Rattle.tz_ever.proofs.cycle.EverLemmas.{adds_behind, two_kept}
-use Rattle.tz_ever.proofs.cycle.FitLemmas.{are_bounded, fit-for_ever, greatest_of, least_of}
-use Rattle.tz_ever.proofs.cycle.ForEverLemmas.{repeats-cycles, total_over-is, years-enough}
-use Rattle.tz_ever.proofs.cycle.GoingLemmas.{IsGoing}
-use Rattle.tz_ever.proofs.cycle.MoreLemmas.{HasSet, by_kind, set_of_going, set_over, sorted_entries_over-still}
-use Rattle.tz_ever.proofs.cycle.OrderLemmas.{AllFrom}
-use Rattle.tz_ever.proofs.cycle.SpanLemmas.{same_span}
-use Rattle.tz_ever.proofs.cycle.StableLemmas.{NoneHasCome, none_has_come}
-use Rattle.tz_ever.proofs.cycle.ZoneLemmas.{sorted_entries_over-more, span_in}
+use Rattle.zone_values.specs.{Bounds.{are_small_seconds}, Days.{has_day_of_month}, Ends.{end_day}, declared.change.ChangeTime.{ChangeTime}}
+use Rattle.zone_table.specs.{Bounds.{is_bounded_rule, is_bounded_info, is_bounded_saving}, Moments.{applies_to_year}, declared.rule.RuleInfo.{RuleInfo}, declared.zone.ZoneInfo.{ZoneInfo}}
+use Rattle.zone_spans.specs.{Bounds.{is_bounded_line}, Collapse.{is_no_later, is_same_span, kept_of, kept_with, collapsed, without_first}, Compiled.{compiled, compiled_over}, Entries.{entry_of, Entry, total, sorted_entries_over}}
+use Rattle.zone_spans.specs.{Firings.{earliest, fired, year_firings, Firing, is_earlier, firings_of_years}, Lines.{Line, Rulesets, zone_lines}, Schedules.{totals_of, total_at, is_in_offset_range, schedule_over}, Years.{earliest_year}}
+use Rattle.zone_spans.specs.{declared.span.FixedTimespan.{FixedTimespan}, declared.span.FixedTimespanSet.{FixedTimespanSet}, GoesOn.{GoesOn, cycle_entries}, Later.{first_fired, later_entries, later_fired}}
+use Rattle.tz_ever.specs.{AnyYear.{AreEnough, IsFrom2101, instants_on, is_before_cycle, span_for_ever, span_told, total_for_ever, years_for}, InForce.{has_come}}
+use Rattle.tz_ever.proofs.cycle.{BoundLemmas.{FiredFrom, entries_fire, firings_from-low, span-stable_years, year_low}, CollapseLemmas.{kept_of-more}, EverLemmas.{adds_behind, two_kept}, FitLemmas.{are_bounded, fit-for_ever, greatest_of, least_of}}
+use Rattle.tz_ever.proofs.cycle.{ForEverLemmas.{repeats-cycles, total_over-is, years-enough}, GoingLemmas.{IsGoing}, MoreLemmas.{HasSet, by_kind, set_of_going, set_over, sorted_entries_over-still}, OrderLemmas.{AllFrom}, SpanLemmas.{same_span}}
+use Rattle.tz_ever.proofs.cycle.{StableLemmas.{NoneHasCome, none_has_come}, ZoneLemmas.{sorted_entries_over-more, span_in}}
 
 -- ---- small totals
 abbrev pub IsSmallTotal : ℤ → Type 0

@@ -1,23 +1,12 @@
 -- A zone that is tested over one cycle goes on for ever: the total of each later cycle is that of the first.
-use Rattle.std.proofs.Common.{◌≡◌, refl, [], ◌∷◌, map, true, false, pos, List, ◌++◌, arith, ◌≤◌, ℤ, ◌∙◌, sym, ℕ, ◌+◌, Some, None, ap, find, int_lt, Option, subst, cond, int_eq}
-use Rattle.std.proofs.lemmas.List.{map-append}
-use Rattle.std.proofs.lemmas.List.Folds.{find-append}
+use Rattle.std.proofs.{Common.{◌≡◌, refl, [], ◌∷◌, map, true, false, pos, List, ◌++◌, arith, ◌≤◌, ℤ, ◌∙◌, sym, ℕ, ◌+◌, Some, None, ap, find, int_lt, Option, subst, cond, int_eq}, lemmas.List.{map-append}, lemmas.List.Folds.{find-append}}
 use Rattle.std.specs.Option.{option_or}
-use Rattle.zone_spans.specs.Collapse.{is_no_later, is_same_span, kept_of, kept_with}
-use Rattle.zone_spans.specs.Entries.{entry_of, start_entry, Entry, entries_from_over, sorted_entries_over}
-use Rattle.zone_spans.specs.Firings.{Fired, Firing}
-use Rattle.zone_spans.specs.Lines.{Line}
-use Rattle.zone_spans.specs.Listing.{listed_firings}
-use Rattle.zone_spans.specs.declared.span.FixedTimespan.{FixedTimespan}
-use Rattle.zone_spans.specs.Cycle.{entry_on, instant_on, seconds_on}
-use Rattle.tz_ever.specs.InForce.{has_come}
-use Rattle.zone_spans.specs.Later.{begun_entries, first_fired, later_entries, later_fired, listed_entries, start_after}
-use Rattle.zone_spans.specs.Settled.{are_settled}
+use Rattle.zone_spans.specs.{Collapse.{is_no_later, is_same_span, kept_of, kept_with}, Entries.{entry_of, start_entry, Entry, entries_from_over, sorted_entries_over}, Firings.{Fired, Firing}, Lines.{Line}, Listing.{listed_firings}}
+use Rattle.zone_spans.specs.{declared.span.FixedTimespan.{FixedTimespan}, Cycle.{entry_on, instant_on, seconds_on}, Later.{begun_entries, first_fired, later_entries, later_fired, listed_entries, start_after}, Settled.{are_settled}}
 use Rattle.zone_spans.specs.LaterLaws.{firings_of_years-split}
-use Rattle.tz_ever.proofs.cycle.FiringLemmas.{before_on}
-use Rattle.tz_ever.proofs.cycle.OrderLemmas.{AllFrom, AllTo, AllUnder, IsInOrder, Rising, StartsUnder, chain, chain_under, from-on, in_order-for_ever, later_second, past-from, precede-from, rise-from, rising-on}
-use Rattle.tz_ever.proofs.cycle.SeamLemmas.{IsSeam, seam-stays}
-use Rattle.tz_ever.proofs.cycle.ZoneLemmas.{AddsBehind, AllEnd, EndsSaving, IsCycle, IsEndless, later_entries-repeat, listed-more, span-repeats, span_in, start-more}
+use Rattle.tz_ever.specs.InForce.{has_come}
+use Rattle.tz_ever.proofs.cycle.{FiringLemmas.{before_on}, OrderLemmas.{AllFrom, AllTo, AllUnder, IsInOrder, Rising, StartsUnder, chain, chain_under, from-on, in_order-for_ever, later_second, past-from, precede-from, rise-from, rising-on}}
+use Rattle.tz_ever.proofs.cycle.{SeamLemmas.{IsSeam, seam-stays}, ZoneLemmas.{AddsBehind, AllEnd, EndsSaving, IsCycle, IsEndless, later_entries-repeat, listed-more, span-repeats, span_in, start-more}}
 
 -- what is tested at a place: all of it over lists that are worked out
 pub record IsTested (lines : List Line) (last : Line) (place : ℕ) : Type 0 where

@@ -1,19 +1,10 @@
 -- A day outside its year is met in the first 700 years, or never; and the first span is the same over more years.
-use Rattle.std.proofs.Common.{◌≡◌, refl, true, false, pos, arith, ◌≤◌, ℤ, ◌+ℤ◌, ◌∙◌, sym, ℕ, ◌+◌, ◌*◌, ◌<◌, Bool, ◌&&◌, ◌||◌, ◌≤ℤ◌, int_le, zero, suc, ap, ◌-◌, inl, inr, not, int_lt}
-use Rattle.std.proofs.lemmas.Bool.{cases_lt, cases_Bool}
-use Rattle.std.proofs.lemmas.Int.{ints}
-use Rattle.basics.specs.Days.{day}
-use Rattle.basics.specs.SignedLaws.{signed}
+use Rattle.std.proofs.{Common.{◌≡◌, refl, true, false, pos, arith, ◌≤◌, ℤ, ◌+ℤ◌, ◌∙◌, sym, ℕ, ◌+◌, ◌*◌, ◌<◌, Bool, ◌&&◌, ◌||◌, ◌≤ℤ◌, int_le, zero, suc, ap, ◌-◌, inl, inr, not, int_lt}, lemmas.Bool.{cases_lt, cases_Bool}, lemmas.Int.{ints}}
+use Rattle.basics.specs.{Days.{day}, SignedLaws.{signed}}
 use Rattle.zone_values.specs.Days.{named_day, is_in_year}
-use Rattle.zone_table.specs.Moments.{applies_to_year}
-use Rattle.zone_table.specs.declared.rule.RuleInfo.{RuleInfo}
-use Rattle.zone_spans.specs.Faults.{is_outside, some_year}
-use Rattle.zone_spans.specs.Years.{earliest_year}
-use Rattle.zone_spans.specs.Cycle.{days_on, next_cycle}
-use Rattle.zone_spans.specs.Settled.{is_settled}
-use Rattle.tz_ever.proofs.cycle.DayLemmas.{day-repeats}
-use Rattle.tz_ever.proofs.cycle.MomentLemmas.{named_day-repeats}
-use Rattle.tz_ever.proofs.cycle.SettledLemmas.{applies-settled}
+use Rattle.zone_table.specs.{Moments.{applies_to_year}, declared.rule.RuleInfo.{RuleInfo}}
+use Rattle.zone_spans.specs.{Faults.{is_outside, some_year}, Years.{earliest_year}, Cycle.{days_on, next_cycle}, Settled.{is_settled}}
+use Rattle.tz_ever.proofs.cycle.{DayLemmas.{day-repeats}, MomentLemmas.{named_day-repeats}, SettledLemmas.{applies-settled}}
 
 le_moved : (a b : ℤ) → int_le (days_on a) (days_on b) ≡ int_le a b
 le_moved a b = grind (arith, ints)

@@ -1,17 +1,9 @@
 -- The firings of settled rules in a year from 2100 on are those of the year 400 years later, a cycle later.
-use Rattle.std.proofs.Common.{◌≡◌, List, [], ◌∷◌, None, ℤ, pos, refl, ℕ, zero, suc, ap, ◌∙◌, arith, ◌≤ℤ◌, ◌+◌, ◌≤◌, true, ◌++◌, length, filter, sym, append-nil, int_lt, append_assoc}
-use Rattle.std.proofs.lemmas.Int.{ints}
-use Rattle.std.proofs.lemmas.List.{map-append}
+use Rattle.std.proofs.{Common.{◌≡◌, List, [], ◌∷◌, None, ℤ, pos, refl, ℕ, zero, suc, ap, ◌∙◌, arith, ◌≤ℤ◌, ◌+◌, ◌≤◌, true, ◌++◌, length, filter, sym, append-nil, int_lt, append_assoc}, lemmas.Int.{ints}, lemmas.List.{map-append}}
 use Rattle.basics.specs.SignedLaws.{signed}
-use Rattle.zone_table.specs.Moments.{moment}
-use Rattle.zone_table.specs.declared.rule.RuleInfo.{RuleInfo}
-use Rattle.zone_spans.specs.Firings.{earliest, fired, year_firings, is_earlier}
-use Rattle.zone_spans.specs.Years.{earliest_year}
-use Rattle.zone_spans.specs.Cycle.{fired_on, firing_on, next_cycle, seconds_on}
-use Rattle.zone_spans.specs.Later.{firings_from}
-use Rattle.zone_spans.specs.Settled.{are_settled, is_lasting}
-use Rattle.tz_ever.proofs.cycle.MomentLemmas.{moment-repeats}
-use Rattle.tz_ever.proofs.cycle.SettledLemmas.{applying-settled}
+use Rattle.zone_table.specs.{Moments.{moment}, declared.rule.RuleInfo.{RuleInfo}}
+use Rattle.zone_spans.specs.{Firings.{earliest, fired, year_firings, is_earlier}, Years.{earliest_year}, Cycle.{fired_on, firing_on, next_cycle, seconds_on}, Later.{firings_from}, Settled.{are_settled, is_lasting}}
+use Rattle.tz_ever.proofs.cycle.{MomentLemmas.{moment-repeats}, SettledLemmas.{applying-settled}}
 
 pub before_on : (a b : ℤ) → int_lt (seconds_on a) (seconds_on b) ≡ int_lt a b
 before_on a b = grind (arith, ints)

@@ -1,22 +1,11 @@
 -- Rules with small numbers, of which none leaves its year in the first 700, fit each year from 2100 on.
-use Rattle.std.proofs.Common.{◌≡◌, List, [], ◌∷◌, ℤ, pos, refl, Bool, ap, ◌∙◌, arith, ◌+ℤ◌, ◌≤ℤ◌, ◌+◌, ◌≤◌, true, false, filter, sym, ◌-◌, inl, inr, not, ◌&&◌, ◌||◌, int_le, int_lt, cond, neg_ℤ, unsigned_abs}
-use Rattle.std.proofs.lemmas.Bool.{cases_Bool}
+use Rattle.std.proofs.{Common.{◌≡◌, List, [], ◌∷◌, ℤ, pos, refl, Bool, ap, ◌∙◌, arith, ◌+ℤ◌, ◌≤ℤ◌, ◌+◌, ◌≤◌, true, false, filter, sym, ◌-◌, inl, inr, not, ◌&&◌, ◌||◌, int_le, int_lt, cond, neg_ℤ, unsigned_abs}, lemmas.Bool.{cases_Bool}}
 use Rattle.std.specs.List.{list_all}
-use Rattle.basics.specs.ComparisonLaws.{le_from_pass}
-use Rattle.basics.specs.Days.{day}
-use Rattle.basics.specs.SignedLaws.{signed, natural}
-use Rattle.zone_values.specs.Bounds.{are_small_seconds}
-use Rattle.zone_values.specs.Days.{named_day, is_in_year, has_day_of_month}
-use Rattle.zone_table.specs.Bounds.{is_bounded_rule}
-use Rattle.zone_table.specs.Moments.{applies_to_year}
-use Rattle.zone_table.specs.declared.rule.RuleInfo.{RuleInfo}
-use Rattle.zone_spans.specs.Faults.{is_outside, some_year}
-use Rattle.zone_spans.specs.Years.{earliest_year}
-use Rattle.zone_spans.specs.GoesOn.{some_leaves}
-use Rattle.zone_spans.specs.Settled.{are_settled, is_lasting, is_settled, lasting}
-use Rattle.tz_ever.proofs.cycle.BoundLemmas.{AllFit, FitForEver, Fits}
-use Rattle.tz_ever.proofs.cycle.FaultLemmas.{found_in_first, is_outside-repeats}
-use Rattle.tz_ever.proofs.cycle.SettledLemmas.{and_first, and_second, applies-settled}
+use Rattle.basics.specs.{ComparisonLaws.{le_from_pass}, Days.{day}, SignedLaws.{signed, natural}}
+use Rattle.zone_values.specs.{Bounds.{are_small_seconds}, Days.{named_day, is_in_year, has_day_of_month}}
+use Rattle.zone_table.specs.{Bounds.{is_bounded_rule}, Moments.{applies_to_year}, declared.rule.RuleInfo.{RuleInfo}}
+use Rattle.zone_spans.specs.{Faults.{is_outside, some_year}, Years.{earliest_year}, GoesOn.{some_leaves}, Settled.{are_settled, is_lasting, is_settled, lasting}}
+use Rattle.tz_ever.proofs.cycle.{BoundLemmas.{AllFit, FitForEver, Fits}, FaultLemmas.{found_in_first, is_outside-repeats}, SettledLemmas.{and_first, and_second, applies-settled}}
 
 abbrev pub are_bounded : List RuleInfo → Bool
 are_bounded rules = list_all is_bounded_rule rules

@@ -1,39 +1,14 @@
 -- What a zone that goes on shows for ever.
 use Rattle.std.proofs.Common.{◌≡◌, List, [], ◌∷◌, Some, None, ℤ, pos, refl, ℕ, zero, suc, ap, ◌∙◌, arith, ◌+ℤ◌, ◌-ℤ◌, ◌*ℤ◌, ◌≤ℤ◌, ◌+◌, ◌≤◌, true, ◌++◌, sym, ◌*◌, ◌<◌, inl, inr, not, int_le, int_lt, subst, neg_ℤ, unsigned_abs, reverse, ◌<ℤ◌, Result, Err, Ok, ◌/◌}
-use Rattle.std.proofs.lemmas.Bool.{cases_Bool, and_parts}
-use Rattle.std.proofs.lemmas.List.{reverse-append}
-use Rattle.std.specs.List.{list_all}
-use Rattle.std.specs.Option.{option_map_or}
-use Rattle.basics.specs.Sorted.{stable_sort}
-use Rattle.basics.specs.ComparisonLaws.{lt_fail, lt_from_fail, lt_from_pass, le_pass}
-use Rattle.basics.specs.Days.{day}
-use Rattle.basics.specs.MonthLaws.{days_through-two}
-use Rattle.basics.specs.SignedLaws.{signed, natural}
-use Rattle.basics.specs.YearLaws.{day-cycle}
+use Rattle.std.proofs.lemmas.{Bool.{cases_Bool, and_parts}, List.{reverse-append}}
+use Rattle.std.specs.{List.{list_all}, Option.{option_map_or}}
+use Rattle.basics.specs.{Sorted.{stable_sort}, ComparisonLaws.{lt_fail, lt_from_fail, lt_from_pass, le_pass}, Days.{day}, MonthLaws.{days_through-two}, SignedLaws.{signed, natural}, YearLaws.{day-cycle}}
 use Rattle.zone_table.specs.declared.zone.ZoneInfo.{ZoneInfo}
-use Rattle.zone_spans.specs.Collapse.{kept_of}
-use Rattle.zone_spans.specs.Compiled.{compiled, compiled_over}
-use Rattle.zone_spans.specs.Entries.{is_sooner, Entry, total, entries_from_over, sorted_entries_over}
-use Rattle.zone_spans.specs.Lines.{Line, Rulesets, zone_lines}
-use Rattle.zone_spans.specs.Schedules.{totals_of, total_at, totals_told, schedule_over}
-use Rattle.zone_spans.specs.Years.{earliest_year}
-use Rattle.zone_spans.specs.declared.fault.SpanFault.{SpanFault}
-use Rattle.zone_spans.specs.declared.span.FixedTimespan.{FixedTimespan}
-use Rattle.zone_spans.specs.declared.span.FixedTimespanSet.{FixedTimespanSet}
-use Rattle.zone_spans.specs.Cycle.{instant_on, next_cycle}
-use Rattle.tz_ever.specs.AnyYear.{AreEnough, IsFrom2101, cycles_at, instants_on, is_before_cycle, span_for_ever, span_told, total_for_ever, years_for}
-use Rattle.zone_spans.specs.GoesOn.{GoesOn, cycle_entries, last_of}
-use Rattle.tz_ever.specs.InForce.{has_come, span_at, span_by}
-use Rattle.tz_ever.specs.InForceLaws.{total_at-is}
-use Rattle.tz_ever.proofs.cycle.BackLemmas.{span-as_before}
-use Rattle.tz_ever.proofs.cycle.DayLemmas.{day-repeats}
-use Rattle.tz_ever.proofs.cycle.EverLemmas.{span-turns}
-use Rattle.tz_ever.proofs.cycle.GoingLemmas.{IsGoing}
-use Rattle.tz_ever.proofs.cycle.MoreLemmas.{HasSet, by_kind, set_of_going, sorted_entries_over-still}
-use Rattle.tz_ever.proofs.cycle.SortLemmas.{AllAreBelow, AllAreBelow-sorted}
-use Rattle.tz_ever.proofs.cycle.StableLemmas.{NoneHasCome}
-use Rattle.tz_ever.proofs.cycle.TestLemmas.{all_early, kept_of-below, not_true}
-use Rattle.tz_ever.proofs.cycle.ZoneLemmas.{span_in, span_in-is}
+use Rattle.zone_spans.specs.{Collapse.{kept_of}, Compiled.{compiled, compiled_over}, Entries.{is_sooner, Entry, total, entries_from_over, sorted_entries_over}, Lines.{Line, Rulesets, zone_lines}, Schedules.{totals_of, total_at, totals_told, schedule_over}}
+use Rattle.zone_spans.specs.{Years.{earliest_year}, declared.fault.SpanFault.{SpanFault}, declared.span.FixedTimespan.{FixedTimespan}, declared.span.FixedTimespanSet.{FixedTimespanSet}, Cycle.{instant_on, next_cycle}, GoesOn.{GoesOn, cycle_entries, last_of}}
+use Rattle.tz_ever.specs.{AnyYear.{AreEnough, IsFrom2101, cycles_at, instants_on, is_before_cycle, span_for_ever, span_told, total_for_ever, years_for}, InForce.{has_come, span_at, span_by}, InForceLaws.{total_at-is}}
+use Rattle.tz_ever.proofs.cycle.{BackLemmas.{span-as_before}, DayLemmas.{day-repeats}, EverLemmas.{span-turns}, GoingLemmas.{IsGoing}, MoreLemmas.{HasSet, by_kind, set_of_going, sorted_entries_over-still}, SortLemmas.{AllAreBelow, AllAreBelow-sorted}}
+use Rattle.tz_ever.proofs.cycle.{StableLemmas.{NoneHasCome}, TestLemmas.{all_early, kept_of-below, not_true}, ZoneLemmas.{span_in, span_in-is}}
 
 -- ---- from 2101 on all that came before 2100 has come
 come_by : (x t : ℤ) → int_lt x (pos 4133980800) ≡ true → pos 4133980800000000000 ≤ℤ t → int_le (x *ℤ pos 1000000000) t ≡ true

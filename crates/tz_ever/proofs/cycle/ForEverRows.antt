@@ -1,41 +1,15 @@
 -- A made zone of two rules in years far off, by what Python's zoneinfo says over zic's file of it.
-use Rattle.std.proofs.Common.{◌≡◌, refl, [], ◌∷◌, map, true, false, pos, List, codes, ℤ, ◌*ℤ◌, ◌∙◌, ℕ, Some, None, Option, Ok}
-use Rattle.std.specs.Int.Signed.{le_z_yes}
-use Rattle.basics.specs.Dates.{last_with}
-use Rattle.basics.specs.Days.{days_after_zero, year_start, days_through, days_into_year, day, is_leap, days_in_year, days_in_month}
-use Rattle.basics.specs.Weekdays.{weekday_of}
-use Rattle.zone_values.specs.Days.{named_day, first_from, is_in_year}
-use Rattle.zone_values.specs.declared.change.ChangeTime.TheVariants.{UntilYear}
-use Rattle.zone_values.specs.declared.day.DaySpec.TheVariants.{Ordinal, Last}
-use Rattle.zone_values.specs.declared.month.Month.{Month}
-use Rattle.zone_values.specs.declared.month.Month.TheVariants.{January, March, July, October}
-use Rattle.zone_values.specs.declared.time.TimeType.{TimeType}
-use Rattle.zone_values.specs.declared.time.TimeType.TheVariants.{Wall, UTC}
-use Rattle.zone_values.specs.declared.weekday.Weekday.TheVariants.{Sunday}
-use Rattle.zone_values.specs.declared.year.Year.TheVariants.{Maximum, Number}
-use Rattle.zone_table.specs.Formats.{abbreviation, filled}
-use Rattle.zone_table.specs.Moments.{applies_to_year, instant_of, last_year, moment}
-use Rattle.zone_table.specs.declared.zone.Format.TheVariants.{Constant, Placeholder}
-use Rattle.zone_table.specs.declared.rule.RuleInfo.{RuleInfo}
-use Rattle.zone_table.specs.declared.zone.Saving.TheVariants.{NoSaving, Multiple}
-use Rattle.zone_table.specs.declared.zone.ZoneInfo.{ZoneInfo}
-use Rattle.zone_spans.specs.Collapse.{kept_of, kept_with, collapsed, without_first}
-use Rattle.zone_spans.specs.Compiled.{compiled, compiled_over, set_of_lines_over}
-use Rattle.zone_spans.specs.Entries.{first_span, entries_from_over, entries_of_over, next_start_over, sorted_entries_over}
-use Rattle.zone_spans.specs.Faults.{is_outside, some_year, leaves_year_over, schedule_fault_over}
-use Rattle.zone_spans.specs.Firings.{earliest, fired, year_firings, firings_of_years, line_firings_over, years_over}
-use Rattle.zone_spans.specs.Lines.{Rulesets, zone_lines}
-use Rattle.zone_spans.specs.Listing.{listed_from, start_firing}
-use Rattle.zone_spans.specs.Schedules.{totals_of, total_at, schedule_over}
-use Rattle.zone_spans.specs.Windows.{line_end}
-use Rattle.zone_spans.specs.declared.span.FixedTimespan.{FixedTimespan}
-use Rattle.zone_spans.specs.declared.span.FixedTimespanSet.{FixedTimespanSet}
-use Rattle.zone_spans.specs.Cycle.{instant_on}
-use Rattle.tz_ever.specs.AnyYear.{IsFrom2101, cycles_at, is_before_cycle, total_for_ever, years_for}
-use Rattle.zone_spans.specs.GoesOn.{GoesOn, dont_fall, front_of, goes_on, is_in_order, last_goes_on, last_of, turns}
-use Rattle.zone_spans.specs.Later.{firings_from, start_after}
-use Rattle.zone_spans.specs.Settled.{is_lasting, is_settled}
-use Rattle.tz_ever.proofs.cycle.ForEverLemmas.{repeats-at}
+use Rattle.std.{proofs.Common.{◌≡◌, refl, [], ◌∷◌, map, true, false, pos, List, codes, ℤ, ◌*ℤ◌, ◌∙◌, ℕ, Some, None, Option, Ok}, specs.Int.Signed.{le_z_yes}}
+use Rattle.basics.specs.{Dates.{last_with}, Days.{days_after_zero, year_start, days_through, days_into_year, day, is_leap, days_in_year, days_in_month}, Weekdays.{weekday_of}}
+use Rattle.zone_values.specs.{Days.{named_day, first_from, is_in_year}, declared.change.ChangeTime.TheVariants.{UntilYear}, declared.day.DaySpec.TheVariants.{Ordinal, Last}, declared.month.Month.{Month}}
+use Rattle.zone_values.specs.declared.{month.Month.TheVariants.{January, March, July, October}, time.TimeType.{TimeType}, time.TimeType.TheVariants.{Wall, UTC}, weekday.Weekday.TheVariants.{Sunday}, year.Year.TheVariants.{Maximum, Number}}
+use Rattle.zone_table.specs.{Formats.{abbreviation, filled}, Moments.{applies_to_year, instant_of, last_year, moment}, declared.zone.Format.TheVariants.{Constant, Placeholder}, declared.rule.RuleInfo.{RuleInfo}}
+use Rattle.zone_table.specs.declared.zone.{Saving.TheVariants.{NoSaving, Multiple}, ZoneInfo.{ZoneInfo}}
+use Rattle.zone_spans.specs.{Collapse.{kept_of, kept_with, collapsed, without_first}, Compiled.{compiled, compiled_over, set_of_lines_over}, Entries.{first_span, entries_from_over, entries_of_over, next_start_over, sorted_entries_over}}
+use Rattle.zone_spans.specs.{Faults.{is_outside, some_year, leaves_year_over, schedule_fault_over}, Firings.{earliest, fired, year_firings, firings_of_years, line_firings_over, years_over}, Lines.{Rulesets, zone_lines}, Listing.{listed_from, start_firing}}
+use Rattle.zone_spans.specs.{Schedules.{totals_of, total_at, schedule_over}, Windows.{line_end}, declared.span.FixedTimespan.{FixedTimespan}, declared.span.FixedTimespanSet.{FixedTimespanSet}, Cycle.{instant_on}}
+use Rattle.zone_spans.specs.{GoesOn.{GoesOn, dont_fall, front_of, goes_on, is_in_order, last_goes_on, last_of, turns}, Later.{firings_from, start_after}, Settled.{is_lasting, is_settled}}
+use Rattle.tz_ever.{specs.AnyYear.{IsFrom2101, cycles_at, is_before_cycle, total_for_ever, years_for}, proofs.cycle.ForEverLemmas.{repeats-at}}
 
 -- `Rule Two 2098 max - Mar lastSun 1:00u 1:00 S` and `Rule Two 2098 max - Oct lastSun 1:00u 0 -`
 abbrev pub last_sunday : Month → ℤ → Option (List ℕ) → RuleInfo

@@ -1,40 +1,16 @@
 -- Zones that go on, and zones that don't, by one line or rule each.
-use Rattle.std.proofs.Common.{◌≡◌, refl, [], ◌∷◌, map, true, false, pos, codes, Some, None, Option, Err, List, ℤ, length, neg_ℤ}
-use Rattle.std.specs.Option.{option_map_or}
-use Rattle.basics.specs.Dates.{last_with}
-use Rattle.basics.specs.Days.{days_after_zero, year_start, days_through, days_into_year, day, is_leap, days_in_year, days_in_month}
-use Rattle.basics.specs.Weekdays.{weekday_of}
-use Rattle.zone_values.specs.Days.{named_day, first_from, is_in_year}
-use Rattle.zone_values.specs.declared.change.ChangeTime.TheVariants.{UntilYear}
-use Rattle.zone_values.specs.declared.day.DaySpec.TheVariants.{FirstOnOrAfter}
-use Rattle.zone_values.specs.declared.month.Month.TheVariants.{March, December}
-use Rattle.zone_values.specs.declared.weekday.Weekday.TheVariants.{Sunday}
-use Rattle.zone_values.specs.declared.year.Year.{Year}
-use Rattle.zone_values.specs.declared.year.Year.TheVariants.{Maximum, Number, Minimum}
-use Rattle.zone_table.specs.Formats.{abbreviation, filled}
-use Rattle.zone_table.specs.Moments.{applies_to_year, instant_of, last_year, moment}
-use Rattle.zone_table.specs.declared.zone.Format.TheVariants.{Constant}
-use Rattle.zone_table.specs.declared.rule.RuleInfo.{RuleInfo}
-use Rattle.zone_table.specs.declared.zone.Saving.TheVariants.{NoSaving, Multiple}
+use Rattle.std.{proofs.Common.{◌≡◌, refl, [], ◌∷◌, map, true, false, pos, codes, Some, None, Option, Err, List, ℤ, length, neg_ℤ}, specs.Option.{option_map_or}}
+use Rattle.basics.specs.{Dates.{last_with}, Days.{days_after_zero, year_start, days_through, days_into_year, day, is_leap, days_in_year, days_in_month}, Weekdays.{weekday_of}}
+use Rattle.zone_values.specs.{Days.{named_day, first_from, is_in_year}, declared.change.ChangeTime.TheVariants.{UntilYear}, declared.day.DaySpec.TheVariants.{FirstOnOrAfter}, declared.month.Month.TheVariants.{March, December}}
+use Rattle.zone_values.specs.declared.{weekday.Weekday.TheVariants.{Sunday}, year.Year.{Year}, year.Year.TheVariants.{Maximum, Number, Minimum}}
+use Rattle.zone_table.specs.{Formats.{abbreviation, filled}, Moments.{applies_to_year, instant_of, last_year, moment}, declared.zone.Format.TheVariants.{Constant}, declared.rule.RuleInfo.{RuleInfo}, declared.zone.Saving.TheVariants.{NoSaving, Multiple}}
 use Rattle.zone_table.specs.declared.zone.ZoneInfo.{ZoneInfo}
-use Rattle.zone_spans.specs.Collapse.{kept_of, kept_with, collapsed, without_first}
-use Rattle.zone_spans.specs.Compiled.{compiled_over, set_of_lines_over}
-use Rattle.zone_spans.specs.Entries.{first_span, entries_from_over, entries_of_over, next_start_over, sorted_entries_over}
-use Rattle.zone_spans.specs.Faults.{is_outside, some_year, leaves_year_over, schedule_fault_over}
-use Rattle.zone_spans.specs.Firings.{earliest, fired, year_firings, firings_of_years, line_firings_over, years_over}
-use Rattle.zone_spans.specs.Lines.{Rulesets, zone_lines}
-use Rattle.zone_spans.specs.Listing.{listed_from, start_firing}
-use Rattle.zone_spans.specs.Schedules.{totals_of, total_at, schedule_over}
-use Rattle.zone_spans.specs.Windows.{line_end}
-use Rattle.zone_spans.specs.declared.fault.SpanFault.{SpanFault}
+use Rattle.zone_spans.specs.{Collapse.{kept_of, kept_with, collapsed, without_first}, Compiled.{compiled_over, set_of_lines_over}, Entries.{first_span, entries_from_over, entries_of_over, next_start_over, sorted_entries_over}}
+use Rattle.zone_spans.specs.{Faults.{is_outside, some_year, leaves_year_over, schedule_fault_over}, Firings.{earliest, fired, year_firings, firings_of_years, line_firings_over, years_over}, Lines.{Rulesets, zone_lines}, Listing.{listed_from, start_firing}}
+use Rattle.zone_spans.specs.{Schedules.{totals_of, total_at, schedule_over}, Windows.{line_end}, declared.fault.SpanFault.{SpanFault}}
 use Rattle.zone_spans.specs.declared.fault.SpanFault.TheVariants.{DayRange, MissingUntil, NoMemory, NoStandardSpan, RuleYears, UnknownRuleset, YearRange}
-use Rattle.zone_spans.specs.GoesOn.{cycle_entries, dont_fall, front_of, goes_on, is_in_order, last_goes_on, last_of, some_leaves, turns}
-use Rattle.zone_spans.specs.Later.{firings_from, start_after}
-use Rattle.zone_spans.specs.Settled.{is_lasting, is_settled}
-use Rattle.tz_ever.specs.ForEver.{ever_years}
-use Rattle.tz_ever.specs.Opens.{ending_by, leaves_year}
-use Rattle.tz_ever.specs.declared.open.EverFault.TheVariants.{LaterDay, RulesEnd}
-use Rattle.tz_ever.proofs.cycle.ForEverRows.{last_sunday}
+use Rattle.zone_spans.specs.{GoesOn.{cycle_entries, dont_fall, front_of, goes_on, is_in_order, last_goes_on, last_of, some_leaves, turns}, Later.{firings_from, start_after}, Settled.{is_lasting, is_settled}}
+use Rattle.tz_ever.{specs.ForEver.{ever_years}, specs.Opens.{ending_by, leaves_year}, specs.declared.open.EverFault.TheVariants.{LaterDay, RulesEnd}, proofs.cycle.ForEverRows.{last_sunday}}
 
 abbrev ruled : ZoneInfo
 ruled = record { offset = pos 3600; saving = Multiple (codes "R"); format = Constant (codes "CET"); end_time = None }

@@ -1,25 +1,13 @@
 -- What a zone that goes on is: still, or turning at the end of 2099.
-use Rattle.std.proofs.Common.{◌≡◌, List, [], ◌∷◌, Some, None, ℤ, pos, refl, Bool, arith, ◌*ℤ◌, true, false, ◌++◌, not, ◌&&◌, ◌||◌, find, option_map, int_lt, Option, subst, int_eq, ◌<ℤ◌, is_none, is_some}
-use Rattle.std.proofs.lemmas.Bool.{and_parts}
+use Rattle.std.proofs.{Common.{◌≡◌, List, [], ◌∷◌, Some, None, ℤ, pos, refl, Bool, arith, ◌*ℤ◌, true, false, ◌++◌, not, ◌&&◌, ◌||◌, find, option_map, int_lt, Option, subst, int_eq, ◌<ℤ◌, is_none, is_some}, lemmas.Bool.{and_parts}}
 use Rattle.std.specs.List.{list_all, list_any}
-use Rattle.basics.specs.Sorted.{stable_sort}
-use Rattle.basics.specs.ComparisonLaws.{eq_from_pass}
+use Rattle.basics.specs.{Sorted.{stable_sort}, ComparisonLaws.{eq_from_pass}}
 use Rattle.zone_values.specs.declared.change.ChangeTime.{ChangeTime}
-use Rattle.zone_spans.specs.Entries.{is_sooner, start_entry, Entry, fixed_span, at_start, span_of, entries_from_over, sorted_entries_over}
-use Rattle.zone_spans.specs.Firings.{Firing}
-use Rattle.zone_spans.specs.Lines.{Line, is_ruled}
-use Rattle.zone_spans.specs.Listing.{start_firing}
-use Rattle.zone_spans.specs.declared.span.FixedTimespan.{FixedTimespan}
-use Rattle.zone_spans.specs.GoesOn.{are_cycle_later, cycle_entries, ends_by_then, is_apart, is_before_2101, is_in_order, is_still, kept_over, last_goes_on, some_leaves, turns}
-use Rattle.zone_spans.specs.Later.{begun_entries, first_fired, start_after}
+use Rattle.zone_spans.specs.{Entries.{is_sooner, start_entry, Entry, fixed_span, at_start, span_of, entries_from_over, sorted_entries_over}, Firings.{Firing}, Lines.{Line, is_ruled}, Listing.{start_firing}, declared.span.FixedTimespan.{FixedTimespan}}
+use Rattle.zone_spans.specs.{GoesOn.{are_cycle_later, cycle_entries, ends_by_then, is_apart, is_before_2101, is_in_order, is_still, kept_over, last_goes_on, some_leaves, turns}, Later.{begun_entries, first_fired, start_after}}
 use Rattle.zone_spans.specs.Settled.{are_settled, is_lasting}
-use Rattle.tz_ever.proofs.cycle.BackLemmas.{IsApart}
-use Rattle.tz_ever.proofs.cycle.EverLemmas.{IsTurning}
-use Rattle.tz_ever.proofs.cycle.OrderLemmas.{AllTo, AllUnder, StartsUnder}
-use Rattle.tz_ever.proofs.cycle.SortLemmas.{AllAreBelow, AllAreBelow-sorted}
-use Rattle.tz_ever.proofs.cycle.StableLemmas.{NoneHasCome}
-use Rattle.tz_ever.proofs.cycle.TestLemmas.{all_early, all_end, ends_of, kept_of-below, not_true, order_of, some_found}
-use Rattle.tz_ever.proofs.cycle.ZoneLemmas.{AllEnd, IsEndless, entries_from_over-first}
+use Rattle.tz_ever.proofs.cycle.{BackLemmas.{IsApart}, EverLemmas.{IsTurning}, OrderLemmas.{AllTo, AllUnder, StartsUnder}, SortLemmas.{AllAreBelow, AllAreBelow-sorted}, StableLemmas.{NoneHasCome}}
+use Rattle.tz_ever.proofs.cycle.{TestLemmas.{all_early, all_end, ends_of, kept_of-below, not_true, order_of, some_found}, ZoneLemmas.{AllEnd, IsEndless, entries_from_over-first}}
 
 -- what is asked of any last line
 pub record IsGoing (front : List Line) (last : Line) : Type 0 where

@@ -1,14 +1,8 @@
 -- Firings past a line's start are listed behind those that it lists without them, and leave its start as it is.
 use Rattle.std.proofs.Common.{◌≡◌, ℕ, suc, ◌+◌, Bool, true, false, not, cond, if◌then◌else◌, List, [], ◌∷◌, ◌++◌, length, nat_lt, filter, find, take, drop, reverse, Option, Some, None, ℤ, pos, int_lt, int_eq, refl, sym, ap, ◌∙◌, arith}
-use Rattle.std.proofs.Math.Dec.{leb-suc-suc}
-use Rattle.std.proofs.lemmas.Bool.Decides.{nat_tests}
-use Rattle.std.proofs.lemmas.Int.{ints}
-use Rattle.std.proofs.lemmas.List.{reverse-append}
-use Rattle.std.proofs.lemmas.List.Folds.{find-append}
-use Rattle.std.specs.List.{list_all, position_or_len}
-use Rattle.std.specs.Option.{option_or}
-use Rattle.zone_spans.specs.Firings.{Firing}
-use Rattle.zone_spans.specs.Listing.{is_at, listed_from, start_firing}
+use Rattle.std.proofs.{Math.Dec.{leb-suc-suc}, lemmas.Bool.Decides.{nat_tests}, lemmas.Int.{ints}, lemmas.List.{reverse-append}, lemmas.List.Folds.{find-append}}
+use Rattle.std.specs.{List.{list_all, position_or_len}, Option.{option_or}}
+use Rattle.zone_spans.specs.{Firings.{Firing}, Listing.{is_at, listed_from, start_firing}}
 use Rattle.tz_ever.proofs.cycle.SettledLemmas.{and_first, and_second}
 
 -- all of the firings come after that second

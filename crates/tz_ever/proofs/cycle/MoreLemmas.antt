@@ -1,34 +1,16 @@
 -- A zone's spans over more years than 300: no fault comes, the first span stays, and entries come behind those that stand.
 use Rattle.std.proofs.Common.{◌≡◌, List, [], ◌∷◌, Some, None, ℤ, pos, refl, ℕ, zero, suc, Bool, ap, ◌∙◌, arith, ◌+◌, ◌≤◌, true, false, ◌++◌, sym, append-nil, inl, inr, not, ◌&&◌, ◌||◌, if◌then◌else◌, find, option_map, Option, subst, is_none, Result, Ok, ◌⊎◌}
-use Rattle.std.proofs.lemmas.Bool.{cases_Bool, and_parts}
-use Rattle.std.proofs.lemmas.List.Folds.{find-append, list_any-append}
-use Rattle.std.specs.List.{list_any}
-use Rattle.std.specs.Option.{option_or, option_map_or}
+use Rattle.std.proofs.lemmas.{Bool.{cases_Bool, and_parts}, List.Folds.{find-append, list_any-append}}
+use Rattle.std.specs.{List.{list_any}, Option.{option_or, option_map_or}}
 use Rattle.basics.specs.Sorted.{stable_sort}
-use Rattle.zone_table.specs.declared.rule.RuleInfo.{RuleInfo}
-use Rattle.zone_table.specs.declared.zone.ZoneInfo.{ZoneInfo}
-use Rattle.zone_spans.specs.Collapse.{collapsed}
-use Rattle.zone_spans.specs.Compiled.{compiled, set_of, unless, compiled_over, set_of_lines_over}
-use Rattle.zone_spans.specs.Entries.{is_sooner, Entry, first_span, fixed_span, is_standard, entries_from_over, sorted_entries_over}
-use Rattle.zone_spans.specs.Faults.{is_outside, some_year, all_but_last, begins_ruled, ends_in_no_year, ends_outside, first_met, is_unknown, lacks_years, leaves_year_over, schedule_fault_over}
-use Rattle.zone_spans.specs.Firings.{years_over}
-use Rattle.zone_spans.specs.Lines.{Line, is_ruled, Rulesets, zone_lines}
-use Rattle.zone_spans.specs.Years.{earliest_year}
-use Rattle.zone_spans.specs.declared.fault.SpanFault.{SpanFault}
-use Rattle.zone_spans.specs.declared.fault.SpanFault.TheVariants.{UnknownRuleset, MissingUntil, YearRange, RuleYears, DayRange, NoStandardSpan}
-use Rattle.zone_spans.specs.declared.span.FixedTimespan.{FixedTimespan}
-use Rattle.zone_spans.specs.declared.span.FixedTimespanSet.{FixedTimespanSet}
-use Rattle.zone_spans.specs.GoesOn.{GoesOn, front_of, goes_on, is_still, last_goes_on, last_of, some_leaves, turns}
-use Rattle.zone_spans.specs.Later.{begun_entries, later_entries, listed_entries, start_after}
-use Rattle.zone_spans.specs.Settled.{are_settled, is_settled}
-use Rattle.tz_ever.proofs.cycle.EverLemmas.{adds_behind}
-use Rattle.tz_ever.proofs.cycle.FaultLemmas.{or_right, outside-more}
-use Rattle.tz_ever.proofs.cycle.FitLemmas.{or_first, or_second}
-use Rattle.tz_ever.proofs.cycle.GoingLemmas.{IsGoing, IsTurned, going_of, turned_of}
-use Rattle.tz_ever.proofs.cycle.QuietLemmas.{entries_from_over-still}
-use Rattle.tz_ever.proofs.cycle.TestLemmas.{is_split}
+use Rattle.zone_table.specs.declared.{rule.RuleInfo.{RuleInfo}, zone.ZoneInfo.{ZoneInfo}}
+use Rattle.zone_spans.specs.{Collapse.{collapsed}, Compiled.{compiled, set_of, unless, compiled_over, set_of_lines_over}, Entries.{is_sooner, Entry, first_span, fixed_span, is_standard, entries_from_over, sorted_entries_over}}
+use Rattle.zone_spans.specs.{Faults.{is_outside, some_year, all_but_last, begins_ruled, ends_in_no_year, ends_outside, first_met, is_unknown, lacks_years, leaves_year_over, schedule_fault_over}, Firings.{years_over}}
+use Rattle.zone_spans.specs.{Lines.{Line, is_ruled, Rulesets, zone_lines}, Years.{earliest_year}, declared.fault.SpanFault.{SpanFault}, declared.fault.SpanFault.TheVariants.{UnknownRuleset, MissingUntil, YearRange, RuleYears, DayRange, NoStandardSpan}}
+use Rattle.zone_spans.specs.{declared.span.FixedTimespan.{FixedTimespan}, declared.span.FixedTimespanSet.{FixedTimespanSet}, GoesOn.{GoesOn, front_of, goes_on, is_still, last_goes_on, last_of, some_leaves, turns}}
+use Rattle.zone_spans.specs.{Later.{begun_entries, later_entries, listed_entries, start_after}, Settled.{are_settled, is_settled}, LaterLaws.{EndsByThen, years_over-ended}}
+use Rattle.tz_ever.proofs.cycle.{EverLemmas.{adds_behind}, FaultLemmas.{or_right, outside-more}, FitLemmas.{or_first, or_second}, GoingLemmas.{IsGoing, IsTurned, going_of, turned_of}, QuietLemmas.{entries_from_over-still}, TestLemmas.{is_split}}
 use Rattle.tz_ever.proofs.cycle.ZoneLemmas.{AllEnd, entries_from_over-first, entries_from_over-more, sorted_entries_over-more}
-use Rattle.zone_spans.specs.LaterLaws.{EndsByThen, years_over-ended}
 
 -- what stands before 2100 stays, and entries come behind it
 pub record Extends (front : List Line) (last : Line) (k : ℕ) : Type 0 where

@@ -1,19 +1,7 @@
 -- What a test over the entries of one cycle says of all years past it: they are in order, and behind what stands before them.
-use Rattle.std.proofs.Common.{◌≡◌, List, [], ◌∷◌, Some, None, ℤ, refl, ℕ, zero, suc, ap, ◌∙◌, arith, ◌+◌, ◌≤◌, true, false, ◌++◌, map, sym, ◌-◌, ◌*◌, inl, inr, int_lt, Option, subst}
-use Rattle.std.proofs.lemmas.Bool.{cases_lt}
-use Rattle.std.proofs.lemmas.Int.{ints}
-use Rattle.std.proofs.lemmas.List.{map-append}
-use Rattle.zone_spans.specs.Entries.{entry_of, is_sooner, Entry}
-use Rattle.zone_spans.specs.Firings.{Fired, Firing}
-use Rattle.zone_spans.specs.Lines.{Line}
-use Rattle.zone_spans.specs.Cycle.{entry_on, seconds_on}
-use Rattle.zone_spans.specs.Later.{firings_from, first_fired, later_entries, later_fired}
-use Rattle.zone_spans.specs.Settled.{are_settled}
-use Rattle.zone_spans.specs.LaterLaws.{firings_of_years-split}
-use Rattle.tz_ever.proofs.cycle.FiringLemmas.{before_on, firings_from-repeats, firings_from-split}
-use Rattle.tz_ever.proofs.cycle.SeamLemmas.{IsSeam}
-use Rattle.tz_ever.proofs.cycle.SortLemmas.{AllAreBelow, NoneIsBelow, Precede, RiseAbove}
-use Rattle.tz_ever.proofs.cycle.ZoneLemmas.{ArePast, entries_on}
+use Rattle.std.proofs.{Common.{◌≡◌, List, [], ◌∷◌, Some, None, ℤ, refl, ℕ, zero, suc, ap, ◌∙◌, arith, ◌+◌, ◌≤◌, true, false, ◌++◌, map, sym, ◌-◌, ◌*◌, inl, inr, int_lt, Option, subst}, lemmas.Bool.{cases_lt}, lemmas.Int.{ints}, lemmas.List.{map-append}}
+use Rattle.zone_spans.specs.{Entries.{entry_of, is_sooner, Entry}, Firings.{Fired, Firing}, Lines.{Line}, Cycle.{entry_on, seconds_on}, Later.{firings_from, first_fired, later_entries, later_fired}, Settled.{are_settled}, LaterLaws.{firings_of_years-split}}
+use Rattle.tz_ever.proofs.cycle.{FiringLemmas.{before_on, firings_from-repeats, firings_from-split}, SeamLemmas.{IsSeam}, SortLemmas.{AllAreBelow, NoneIsBelow, Precede, RiseAbove}, ZoneLemmas.{ArePast, entries_on}}
 
 -- none comes before that second
 abbrev pub AllFrom : ℤ → List Entry → Type 0

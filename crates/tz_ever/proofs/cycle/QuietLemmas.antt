@@ -1,22 +1,11 @@
 -- A zone whose last line has no lasting rule, or no rules at all, has the same entries over more years.
-use Rattle.std.proofs.Common.{◌≡◌, List, [], ◌∷◌, None, ℤ, pos, refl, ℕ, zero, suc, Bool, ap, ◌∙◌, arith, ◌≤ℤ◌, ◌+◌, ◌≤◌, true, false, ◌++◌, length, map, filter, sym, append-nil, inl, inr, not, ◌&&◌, Option}
-use Rattle.std.proofs.lemmas.Bool.{cases_Bool}
+use Rattle.std.proofs.{Common.{◌≡◌, List, [], ◌∷◌, None, ℤ, pos, refl, ℕ, zero, suc, Bool, ap, ◌∙◌, arith, ◌≤ℤ◌, ◌+◌, ◌≤◌, true, false, ◌++◌, length, map, filter, sym, append-nil, inl, inr, not, ◌&&◌, Option}, lemmas.Bool.{cases_Bool}}
 use Rattle.std.specs.List.{list_any}
 use Rattle.basics.specs.SignedLaws.{signed}
 use Rattle.zone_table.specs.declared.rule.RuleInfo.{RuleInfo}
-use Rattle.zone_spans.specs.Entries.{entry_of, start_entry, entries_from_over, entries_of_over}
-use Rattle.zone_spans.specs.Firings.{fired, year_firings, Fired}
-use Rattle.zone_spans.specs.Lines.{Line, is_ruled}
-use Rattle.zone_spans.specs.Listing.{listed_firings}
-use Rattle.zone_spans.specs.Years.{earliest_year}
-use Rattle.zone_spans.specs.GoesOn.{is_still}
-use Rattle.zone_spans.specs.Later.{firings_from, first_fired, start_after}
-use Rattle.zone_spans.specs.Settled.{are_settled, is_lasting}
-use Rattle.zone_spans.specs.LaterLaws.{firings_of_years-split}
-use Rattle.tz_ever.proofs.cycle.FiringLemmas.{year_firings-settled}
-use Rattle.tz_ever.proofs.cycle.FitLemmas.{or_first, or_second}
-use Rattle.tz_ever.proofs.cycle.TestLemmas.{not_true}
-use Rattle.tz_ever.proofs.cycle.ZoneLemmas.{AllEnd, IsEndless, entries_from_over-split, entries_of_over-endless}
+use Rattle.zone_spans.specs.{Entries.{entry_of, start_entry, entries_from_over, entries_of_over}, Firings.{fired, year_firings, Fired}, Lines.{Line, is_ruled}, Listing.{listed_firings}, Years.{earliest_year}, GoesOn.{is_still}}
+use Rattle.zone_spans.specs.{Later.{firings_from, first_fired, start_after}, Settled.{are_settled, is_lasting}, LaterLaws.{firings_of_years-split}}
+use Rattle.tz_ever.proofs.cycle.{FiringLemmas.{year_firings-settled}, FitLemmas.{or_first, or_second}, TestLemmas.{not_true}, ZoneLemmas.{AllEnd, IsEndless, entries_from_over-split, entries_of_over-endless}}
 
 year_firings-quiet : (y offset saving : ℤ) (rules : List RuleInfo) → are_settled rules ≡ true → pos 2100 ≤ℤ y
     → filter is_lasting rules ≡ [] → year_firings y offset None saving rules ≡ ([], saving)

@@ -1,18 +1,9 @@
 -- The total in force at an instant of a later cycle is that a cycle before it.
-use Rattle.std.proofs.Common.{◌≡◌, List, [], ◌∷◌, ℤ, pos, refl, ℕ, Bool, ap, ◌∙◌, arith, ◌*ℤ◌, true, false, ◌++◌, map, sym, ◌&&◌, if◌then◌else◌, int_le, cond, int_eq, reverse, eqb-true, nat_eq}
-use Rattle.std.proofs.lemmas.Bool.{and_parts}
-use Rattle.std.proofs.lemmas.Int.{ints}
+use Rattle.std.proofs.{Common.{◌≡◌, List, [], ◌∷◌, ℤ, pos, refl, ℕ, Bool, ap, ◌∙◌, arith, ◌*ℤ◌, true, false, ◌++◌, map, sym, ◌&&◌, if◌then◌else◌, int_le, cond, int_eq, reverse, eqb-true, nat_eq}, lemmas.Bool.{and_parts}, lemmas.Int.{ints}}
 use Rattle.std.proofs.lemmas.List.{reverse-append}
-use Rattle.basics.specs.Bytes.{are_same_bytes}
-use Rattle.basics.specs.ComparisonLaws.{eq_from_pass}
-use Rattle.basics.specs.SignedLaws.{signed}
-use Rattle.zone_spans.specs.Collapse.{is_no_later, is_same_span, kept_of, kept_with, without_first}
-use Rattle.zone_spans.specs.Entries.{Entry}
-use Rattle.zone_spans.specs.declared.span.FixedTimespan.{FixedTimespan}
-use Rattle.zone_spans.specs.Cycle.{entry_on, instant_on, seconds_on}
-use Rattle.tz_ever.specs.InForce.{has_come, span_by}
-use Rattle.tz_ever.proofs.cycle.CollapseLemmas.{kept_of-behind}
-use Rattle.tz_ever.proofs.cycle.SettledLemmas.{and_first, and_second}
+use Rattle.basics.specs.{Bytes.{are_same_bytes}, ComparisonLaws.{eq_from_pass}, SignedLaws.{signed}}
+use Rattle.zone_spans.specs.{Collapse.{is_no_later, is_same_span, kept_of, kept_with, without_first}, Entries.{Entry}, declared.span.FixedTimespan.{FixedTimespan}, Cycle.{entry_on, instant_on, seconds_on}}
+use Rattle.tz_ever.{specs.InForce.{has_come, span_by}, proofs.cycle.CollapseLemmas.{kept_of-behind}, proofs.cycle.SettledLemmas.{and_first, and_second}}
 
 moved : (x : ℤ) → seconds_on x *ℤ pos 1000000000 ≡ instant_on (x *ℤ pos 1000000000)
 moved x = omega (arith, signed)

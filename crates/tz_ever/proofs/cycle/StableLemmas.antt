@@ -1,20 +1,9 @@
 -- Up to the entries of later years the total over more years is the same.
-use Rattle.std.proofs.Common.{◌≡◌, List, [], ◌∷◌, ℤ, pos, refl, ℕ, ap, ◌∙◌, arith, ◌+ℤ◌, ◌*ℤ◌, ◌≤ℤ◌, ◌+◌, true, false, ◌++◌, sym, int_le, int_lt, cond, reverse, ◌<ℤ◌}
-use Rattle.std.proofs.lemmas.Int.{ints}
-use Rattle.std.proofs.lemmas.List.{reverse-append}
-use Rattle.basics.specs.ComparisonLaws.{le_fail, lt_from_fail}
-use Rattle.basics.specs.SignedLaws.{signed}
-use Rattle.zone_spans.specs.Collapse.{is_no_later, is_same_span, kept_of, kept_with}
-use Rattle.zone_spans.specs.Entries.{Entry, total, sorted_entries_over}
-use Rattle.zone_spans.specs.Lines.{Line}
-use Rattle.zone_spans.specs.declared.span.FixedTimespan.{FixedTimespan}
+use Rattle.std.proofs.{Common.{◌≡◌, List, [], ◌∷◌, ℤ, pos, refl, ℕ, ap, ◌∙◌, arith, ◌+ℤ◌, ◌*ℤ◌, ◌≤ℤ◌, ◌+◌, true, false, ◌++◌, sym, int_le, int_lt, cond, reverse, ◌<ℤ◌}, lemmas.Int.{ints}, lemmas.List.{reverse-append}}
+use Rattle.basics.specs.{ComparisonLaws.{le_fail, lt_from_fail}, SignedLaws.{signed}}
+use Rattle.zone_spans.specs.{Collapse.{is_no_later, is_same_span, kept_of, kept_with}, Entries.{Entry, total, sorted_entries_over}, Lines.{Line}, declared.span.FixedTimespan.{FixedTimespan}, Later.{later_entries}}
 use Rattle.tz_ever.specs.InForce.{has_come, span_by}
-use Rattle.zone_spans.specs.Later.{later_entries}
-use Rattle.tz_ever.proofs.cycle.CollapseLemmas.{kept_of-more}
-use Rattle.tz_ever.proofs.cycle.EverLemmas.{IsTested, adds_behind}
-use Rattle.tz_ever.proofs.cycle.OrderLemmas.{AllFrom, in_order-for_ever}
-use Rattle.tz_ever.proofs.cycle.SpanLemmas.{span_by-more}
-use Rattle.tz_ever.proofs.cycle.ZoneLemmas.{sorted_entries_over-more, span_in, span_in-is}
+use Rattle.tz_ever.proofs.cycle.{CollapseLemmas.{kept_of-more}, EverLemmas.{IsTested, adds_behind}, OrderLemmas.{AllFrom, in_order-for_ever}, SpanLemmas.{span_by-more}, ZoneLemmas.{sorted_entries_over-more, span_in, span_in-is}}
 
 -- none has come at that instant
 abbrev pub NoneHasCome : ℤ → List Entry → Type 0

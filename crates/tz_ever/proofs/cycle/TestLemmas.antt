@@ -1,22 +1,10 @@
 -- What the tests of a zone that goes on say.
-use Rattle.std.proofs.Common.{◌≡◌, List, [], ◌∷◌, Some, None, ℤ, pos, refl, Bool, ap, arith, ◌+ℤ◌, ◌*ℤ◌, true, false, ◌++◌, not, ◌&&◌, int_le, int_lt, Option, cond, int_eq, ◌<ℤ◌, is_some}
-use Rattle.std.proofs.lemmas.Bool.{and_parts}
-use Rattle.std.proofs.lemmas.Int.{ints}
-use Rattle.std.specs.List.{list_all}
-use Rattle.std.specs.Option.{option_map_or}
-use Rattle.basics.specs.ComparisonLaws.{eq_from_pass}
-use Rattle.basics.specs.SignedLaws.{signed}
-use Rattle.zone_spans.specs.Collapse.{is_no_later, is_same_span, kept_of, kept_with}
-use Rattle.zone_spans.specs.Entries.{is_sooner, Entry, total}
-use Rattle.zone_spans.specs.LaterLaws.{ends-by}
-use Rattle.zone_spans.specs.Lines.{Line}
-use Rattle.zone_spans.specs.Cycle.{entry_on, seconds_on}
+use Rattle.std.proofs.{Common.{◌≡◌, List, [], ◌∷◌, Some, None, ℤ, pos, refl, Bool, ap, arith, ◌+ℤ◌, ◌*ℤ◌, true, false, ◌++◌, not, ◌&&◌, int_le, int_lt, Option, cond, int_eq, ◌<ℤ◌, is_some}, lemmas.Bool.{and_parts}, lemmas.Int.{ints}}
+use Rattle.std.specs.{List.{list_all}, Option.{option_map_or}}
+use Rattle.basics.specs.{ComparisonLaws.{eq_from_pass}, SignedLaws.{signed}}
+use Rattle.zone_spans.specs.{Collapse.{is_no_later, is_same_span, kept_of, kept_with}, Entries.{is_sooner, Entry, total}, LaterLaws.{ends-by}, Lines.{Line}, Cycle.{entry_on, seconds_on}}
 use Rattle.zone_spans.specs.GoesOn.{are_cycle_later, dont_fall, ends_by_then, front_of, is_apart, is_cycle_later, is_in_order, last_of}
-use Rattle.tz_ever.proofs.cycle.OrderLemmas.{AllFrom, AllTo, Rising, StartsUnder, from-lower, none_below-from}
-use Rattle.tz_ever.proofs.cycle.SortLemmas.{AllAreBelow}
-use Rattle.tz_ever.proofs.cycle.SpanLemmas.{same_span}
-use Rattle.tz_ever.proofs.cycle.StableLemmas.{NoneHasCome}
-use Rattle.tz_ever.proofs.cycle.ZoneLemmas.{AllEnd}
+use Rattle.tz_ever.proofs.cycle.{OrderLemmas.{AllFrom, AllTo, Rising, StartsUnder, from-lower, none_below-from}, SortLemmas.{AllAreBelow}, SpanLemmas.{same_span}, StableLemmas.{NoneHasCome}, ZoneLemmas.{AllEnd}}
 
 pub not_true : (b : Bool) → not b ≡ true → b ≡ false
 not_true true h = absurd cc

@@ -1,23 +1,11 @@
 -- A zone whose last line goes on: its entries over more years, its entries of a later cycle, and the total there.
-use Rattle.std.proofs.Common.{◌≡◌, List, [], ◌∷◌, Some, None, ℤ, pos, refl, ℕ, ap, ◌∙◌, arith, ◌+◌, ◌≤◌, true, ◌++◌, map, sym, append-nil, find, Option, int_eq, append_assoc, reverse}
-use Rattle.std.proofs.lemmas.List.{map-append, reverse-append}
+use Rattle.std.proofs.{Common.{◌≡◌, List, [], ◌∷◌, Some, None, ℤ, pos, refl, ℕ, ap, ◌∙◌, arith, ◌+◌, ◌≤◌, true, ◌++◌, map, sym, append-nil, find, Option, int_eq, append_assoc, reverse}, lemmas.List.{map-append, reverse-append}}
 use Rattle.basics.specs.Sorted.{stable_sort}
-use Rattle.zone_spans.specs.Collapse.{kept_of, collapsed}
-use Rattle.zone_spans.specs.Entries.{entry_of, is_sooner, start_entry, Entry, entries_from_over, entries_of_over, next_start_over, sorted_entries_over}
-use Rattle.zone_spans.specs.Firings.{Fired, Firing, line_firings_over, years_over}
-use Rattle.zone_spans.specs.Lines.{Line, is_ruled}
-use Rattle.zone_spans.specs.Listing.{listed_firings}
-use Rattle.zone_spans.specs.declared.span.FixedTimespan.{FixedTimespan}
-use Rattle.zone_spans.specs.Cycle.{entry_on, firing_on, instant_on}
+use Rattle.zone_spans.specs.{Collapse.{kept_of, collapsed}, Entries.{entry_of, is_sooner, start_entry, Entry, entries_from_over, entries_of_over, next_start_over, sorted_entries_over}, Firings.{Fired, Firing, line_firings_over, years_over}}
+use Rattle.zone_spans.specs.{Lines.{Line, is_ruled}, Listing.{listed_firings}, declared.span.FixedTimespan.{FixedTimespan}, Cycle.{entry_on, firing_on, instant_on}}
+use Rattle.zone_spans.specs.{Later.{begun_entries, firings_from, first_fired, later_entries, later_fired, listed_entries, start_after}, Settled.{are_settled}, LaterLaws.{EndsByThen, firings_of_years-split, years_over-ended}}
 use Rattle.tz_ever.specs.InForce.{has_come, span_at, span_by}
-use Rattle.zone_spans.specs.Later.{begun_entries, firings_from, first_fired, later_entries, later_fired, listed_entries, start_after}
-use Rattle.zone_spans.specs.Settled.{are_settled}
-use Rattle.tz_ever.proofs.cycle.CollapseLemmas.{kept-repeats, kept_of-on}
-use Rattle.zone_spans.specs.LaterLaws.{EndsByThen, firings_of_years-split, years_over-ended}
-use Rattle.tz_ever.proofs.cycle.FiringLemmas.{firings_from-repeats}
-use Rattle.tz_ever.proofs.cycle.ListingLemmas.{are_past, listed_from-more, start_firing-more}
-use Rattle.tz_ever.proofs.cycle.SeamLemmas.{IsSeam}
-use Rattle.tz_ever.proofs.cycle.SortLemmas.{Precede, RiseAbove, sorted-more}
+use Rattle.tz_ever.proofs.cycle.{CollapseLemmas.{kept-repeats, kept_of-on}, FiringLemmas.{firings_from-repeats}, ListingLemmas.{are_past, listed_from-more, start_firing-more}, SeamLemmas.{IsSeam}, SortLemmas.{Precede, RiseAbove, sorted-more}}
 use Rattle.tz_ever.proofs.cycle.SpanLemmas.{has_come-on, span_by-kept, span_by-on, span_by-without_first}
 
 -- ---- lines that end in 2099 or before

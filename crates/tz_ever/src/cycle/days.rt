@@ -1,10 +1,8 @@
 //! Days, weekdays and the moments of rules repeat after 400 years.
 ghost use Rattle.std.specs.Prelude.{◌≡◌, ℕ, ℤ, pos, ◌≤ℤ◌};
-ghost use Rattle.basics.specs.Days.{day, days_in_month};
-ghost use Rattle.basics.specs.Weekdays.{weekday_of};
+ghost use Rattle.basics.specs.{Days.{day, days_in_month}, Weekdays.{weekday_of}};
 ghost use Rattle.zone_spans.specs.Cycle.{days_on, next_cycle, seconds_on};
-ghost use Rattle.zone_table.specs.Moments.{moment};
-ghost use Rattle.zone_table.specs.declared.rule.RuleInfo.{RuleInfo};
+ghost use Rattle.zone_table.specs.{Moments.{moment}, declared.rule.RuleInfo.{RuleInfo}};
 
 /// From the year 0 on each date comes again 400 years, or 146,097 days, later.
 pub fn days_repeat()

@@ -3,19 +3,10 @@
 //! `GoesOn` says of a zone's lines and rulesets that it does, by tests over one cycle of 400 years; `total_for_ever` and
 //! `span_for_ever` are what its lines show at an instant, in nanoseconds from 1970-01-01 00:00:00 UTC, where they are expanded over
 //! as many years as the instant asks for.
-ghost use Rattle.std.specs.Prelude.{◌≡◌, ℕ, ◌≤◌, List, true, Ok, Some, ℤ, pos, ◌*ℤ◌, ◌<ℤ◌};
-ghost use Rattle.std.specs.List.{list_all};
-ghost use Rattle.std.specs.Option.{option_map_or};
-ghost use Rattle.zone_spans.specs.Cycle.{instant_on};
-ghost use Rattle.tz_ever.specs.AnyYear.{AreEnough, IsFrom2101, instants_on, is_before_cycle, span_for_ever, span_told, total_for_ever, years_for};
-ghost use Rattle.zone_spans.specs.GoesOn.{GoesOn};
-ghost use Rattle.tz_ever.specs.InForce.{span_at};
-ghost use Rattle.zone_spans.specs.Bounds.{is_bounded_line};
-ghost use Rattle.zone_spans.specs.Compiled.{compiled, compiled_over};
-ghost use Rattle.zone_spans.specs.Entries.{total};
-ghost use Rattle.zone_spans.specs.Lines.{Rulesets, zone_lines};
-ghost use Rattle.zone_spans.specs.Schedules.{is_in_offset_range, total_at, totals_of, schedule_over};
+ghost use Rattle.std.specs.{Prelude.{◌≡◌, ℕ, ◌≤◌, List, true, Ok, Some, ℤ, pos, ◌*ℤ◌, ◌<ℤ◌}, List.{list_all}, Option.{option_map_or}};
+ghost use Rattle.zone_spans.specs.{Cycle.{instant_on}, GoesOn.{GoesOn}, Bounds.{is_bounded_line}, Compiled.{compiled, compiled_over}, Entries.{total}, Lines.{Rulesets, zone_lines}, Schedules.{is_in_offset_range, total_at, totals_of, schedule_over}};
 ghost use Rattle.zone_spans.specs.declared.span.FixedTimespanSet.{FixedTimespanSet};
+ghost use Rattle.tz_ever.specs.{AnyYear.{AreEnough, IsFrom2101, instants_on, is_before_cycle, span_for_ever, span_told, total_for_ever, years_for}, InForce.{span_at}};
 ghost use Rattle.zone_table.specs.declared.zone.ZoneInfo.{ZoneInfo};
 
 /// From 2101 on a zone that goes on, and has a schedule, shows at each instant what it shows 400 years, or 12,622,780,800 seconds,

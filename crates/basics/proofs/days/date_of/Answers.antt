@@ -1,10 +1,5 @@
 use Rattle.std.proofs.Common.{arith, ◌≡◌, ◌≤◌, ◌<◌, ℕ, ◌+◌, ℤ, pos, neg_ℤ, ◌+ℤ◌, ◌-ℤ◌, ◌≤ℤ◌, to_z, of_z, w32, sym, ap, ◌∙◌, unsigned_abs}
-use Rattle.basics.specs.Days.{IsCountedYear}
-use Rattle.basics.specs.Dates.{year_of, month_of, day_of}
-use Rattle.basics.specs.Cycles.{cycle_days}
-use Rattle.basics.specs.SignedLaws.{signed, signed_casts, natural}
-use Rattle.basics.specs.YearLaws.{day-cycle, cycle_days-suc, cycle_days-rise}
-use Rattle.basics.specs.DateLaws.{IsPlace, parts-of_day, year-between}
+use Rattle.basics.specs.{Days.{IsCountedYear}, Dates.{year_of, month_of, day_of}, Cycles.{cycle_days}, SignedLaws.{signed, signed_casts, natural}, YearLaws.{day-cycle, cycle_days-suc, cycle_days-rise}, DateLaws.{IsPlace, parts-of_day, year-between}}
 use Rattle.basics.proofs.days.date_of.Goals as goal
 
 -- the year with that place among those from -11999 on

@@ -1,7 +1,5 @@
 use Rattle.std.proofs.Common.{arith, ◌≡◌, ◌-◌, pos, neg_ℤ, ◌+ℤ◌, ◌≤ℤ◌, to_z-of_z, ap, ◌∙◌}
-use Rattle.basics.specs.Days.{day as date_day, days_through, days_into_year}
-use Rattle.basics.specs.SignedLaws.{signed_casts}
-use Rattle.basics.specs.DateLaws.{day-into_year, day-range, day-between}
+use Rattle.basics.specs.{Days.{day as date_day, days_through, days_into_year}, SignedLaws.{signed_casts}, DateLaws.{day-into_year, day-range, day-between}}
 use Rattle.basics.proofs.days.day_number.Goals as goal
 
 abbrev Sum : goal.After-from-2 → Type 0

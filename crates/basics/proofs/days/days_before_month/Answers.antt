@@ -1,8 +1,6 @@
-use Rattle.std.proofs.Common.{arith, ◌≡◌, ◌≤◌, ℕ, ◌-◌, ◌*◌, ℤ, to_z-of_z, inl, inr, ap}
-use Rattle.basics.specs.Days.{days_through, days_in_year}
-use Rattle.basics.specs.MonthLaws.{days_through-two, days_through-late}
+use Rattle.std.proofs.{Common.{arith, ◌≡◌, ◌≤◌, ℕ, ◌-◌, ◌*◌, ℤ, to_z-of_z, inl, inr, ap}, lemmas.Bool.{cases_lt}}
+use Rattle.basics.specs.{Days.{days_through, days_in_year}, MonthLaws.{days_through-two, days_through-late}}
 use Rattle.basics.proofs.days.days_before_month.Goals as goal
-use Rattle.std.proofs.lemmas.Bool.{cases_lt}
 
 early : (y : ℤ) (m : ℕ) → 1 ≤ m → m ≤ 2 → 31 * (m - 1) ≡ days_through y (m - 1)
 early y m low high =

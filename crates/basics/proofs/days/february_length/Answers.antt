@@ -1,6 +1,5 @@
 use Rattle.std.proofs.Common.{arith}
-use Rattle.basics.specs.MonthLaws.{days_in_month-february}
-use Rattle.basics.specs.YearLaws.{days_in_year-cases}
+use Rattle.basics.specs.{MonthLaws.{days_in_month-february}, YearLaws.{days_in_year-cases}}
 use Rattle.basics.proofs.days.february_length.Goals as goal
 
 pub returns-then-is_leap_year-clause-value : goal.returns-then-is_leap_year-clause-value

@@ -1,7 +1,5 @@
 use Rattle.std.proofs.Common.{arith, ◌≡◌, pos, ◌+ℤ◌, to_z, of_z, w32, unsigned_abs}
-use Rattle.basics.specs.SignedLaws.{signed_casts}
-use Rattle.basics.specs.YearLaws.{day-cycle}
-use Rattle.basics.specs.MonthLaws.{days_through-two}
+use Rattle.basics.specs.{SignedLaws.{signed_casts}, YearLaws.{day-cycle}, MonthLaws.{days_through-two}}
 use Rattle.basics.proofs.days.first_day_of.Goals as goal
 
 pub returns : goal.returns

@@ -1,6 +1,5 @@
 use Rattle.std.proofs.Common.{arith, ◌<◌, ◌-◌, to_z-of_z, ap}
-use Rattle.basics.specs.Days.{days_in_year}
-use Rattle.basics.specs.MonthLaws.{days_through-two, days_in_month-january, days_in_month-february, march_month, march_day}
+use Rattle.basics.specs.{Days.{days_in_year}, MonthLaws.{days_through-two, days_in_month-january, days_in_month-february, march_month, march_day}}
 use Rattle.basics.proofs.days.month_and_day.Goals as goal
 
 pub returns-then-day_of_year-lt31-clause-value : goal.returns-then-day_of_year-lt31-clause-value

@@ -1,5 +1,4 @@
-use Rattle.std.proofs.Common.{arith}
-use Rattle.std.proofs.lemmas.Bool.Decides.{nat_tests}
+use Rattle.std.proofs.{Common.{arith}, lemmas.Bool.Decides.{nat_tests}}
 use Rattle.basics.specs.Days.{days_in_month}
 use Rattle.basics.proofs.days.month_length.Goals as goal
 

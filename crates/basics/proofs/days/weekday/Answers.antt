@@ -1,6 +1,5 @@
 use Rattle.std.proofs.Common.{arith}
-use Rattle.basics.specs.Weekdays.{weekday_of}
-use Rattle.basics.specs.SignedLaws.{signed_casts}
+use Rattle.basics.specs.{Weekdays.{weekday_of}, SignedLaws.{signed_casts}}
 use Rattle.basics.proofs.days.weekday.Goals as goal
 
 pub returns-clause-value : goal.returns-clause-value

@@ -1,5 +1,4 @@
-use Rattle.std.proofs.Common.{arith, ◌≡◌, ℤ, pos, negsuc, to_z-of_z, refl, true, false}
-use Rattle.std.proofs.lemmas.Int.{ints}
+use Rattle.std.proofs.{Common.{arith, ◌≡◌, ℤ, pos, negsuc, to_z-of_z, refl, true, false}, lemmas.Int.{ints}}
 use lib.Signed.{lt_z, le_z}
 use Rattle.civil_base.specs.Ranges.{is_in_years}
 use Rattle.civil_base.proofs.plain_date_time.is_in_years.Goals as goal

@@ -1,18 +1,9 @@
 use Rattle.std.proofs.Common.{rules, arith, ◌≡◌, to_z, of_z, to_z-of_z, FitsSigned, w32, sym, ap, ◌∙◌, unsigned_abs, ℤ, pos, int_lt, ℕ, Bool, false, ◌&&◌, nat_eq}
-use Rattle.basics.specs.SignedLaws.{signed_casts}
-use Rattle.basics.specs.Days.{day, IsDate}
-use Rattle.basics.specs.Dates.{year_of, month_of, day_of}
-use Rattle.basics.specs.DateLaws.{year_of-day, month_of-day, day_of-day}
-use Rattle.civil_base.specs.DateParts.{HasParts}
-use Rattle.civil_base.specs.DayRangeLaws.{counted, date-inside}
-use Rattle.civil_base.specs.Offsets.{signed_by}
-use Rattle.civil_base.specs.Ranges.{IsYear}
-use Rattle.civil_parts.specs.Months.{month_number, IsMonthNumber}
-use Rattle.civil_base.specs.OffsetLaws.{signed_by-size}
-use Rattle.civil_base.specs.DayLaws.{date_of-day}
-use Rattle.civil_base.proofs.FoundLemmas.{result_ok-found, ok_not_none, ok_known}
-use Rattle.civil_base.proofs.ReadLemmas.{signed_by-sign, signed_by-abs, ok_gives}
+use Rattle.basics.specs.{SignedLaws.{signed_casts}, Days.{day, IsDate}, Dates.{year_of, month_of, day_of}, DateLaws.{year_of-day, month_of-day, day_of-day}}
+use Rattle.civil_base.specs.{DateParts.{HasParts}, DayRangeLaws.{counted, date-inside}, Offsets.{signed_by}, Ranges.{IsYear}, OffsetLaws.{signed_by-size}, DayLaws.{date_of-day}}
+use Rattle.civil_base.proofs.{FoundLemmas.{result_ok-found, ok_not_none, ok_known}, ReadLemmas.{signed_by-sign, signed_by-abs, ok_gives}}
 use Rattle.civil_base.proofs.read.date_with.Goals as goal
+use Rattle.civil_parts.specs.Months.{month_number, IsMonthNumber}
 
 pub returns-in_err-month-clause-found : goal.returns-in_err-month-clause-found
 returns-in_err-month-clause-found c = λ k inside parts.

@@ -1,7 +1,5 @@
-use Rattle.std.proofs.Common.{arith, ◌<◌, ◌/◌, ◌%◌, ◌∙◌}
-use Rattle.std.proofs.lemmas.Bool.Decides.{nat_tests}
-use Rattle.civil_base.specs.DigitLaws.{digits-halves}
-use Rattle.civil_base.proofs.ReadLemmas.{not-both, below-halves, joined-halves}
+use Rattle.std.proofs.{Common.{arith, ◌<◌, ◌/◌, ◌%◌, ◌∙◌}, lemmas.Bool.Decides.{nat_tests}}
+use Rattle.civil_base.{specs.DigitLaws.{digits-halves}, proofs.ReadLemmas.{not-both, below-halves, joined-halves}}
 use Rattle.civil_base.proofs.read.four.Goals as goal
 
 pub returns-then-are_digits-clause-value : goal.returns-then-are_digits-clause-value

@@ -1,7 +1,6 @@
 use Rattle.std.proofs.Common.{arith, ℤ, ◌*ℤ◌, ◌+ℤ◌, pos, ◌≡◌, ℕ, ◌<◌}
 use Rattle.basics.specs.SignedLaws.{signed}
-use Rattle.civil_base.specs.Clock.{nanos_per_day}
-use Rattle.civil_base.specs.Layout.{day_part, time_part}
+use Rattle.civil_base.specs.{Clock.{nanos_per_day}, Layout.{day_part, time_part}}
 use Rattle.civil_base.proofs.read.joined.Goals as goal
 
 day-is : (x d : ℤ) (t : ℕ) → x ≡ d *ℤ pos nanos_per_day +ℤ pos t → t < nanos_per_day → day_part x ≡ d

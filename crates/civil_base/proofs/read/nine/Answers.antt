@@ -1,5 +1,4 @@
-use Rattle.std.proofs.Common.{arith, ◌/◌, ◌%◌, ap}
-use Rattle.std.proofs.Common.{get_or}
+use Rattle.std.proofs.Common.{arith, ◌/◌, ◌%◌, ap, get_or}
 use Rattle.civil_base.proofs.ReadLemmas.{nine-listed}
 use Rattle.civil_base.proofs.read.nine.Goals as goal
 

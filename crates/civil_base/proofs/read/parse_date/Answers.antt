@@ -1,12 +1,6 @@
-use Rattle.std.proofs.Common.{arith, ap, sym, unsigned_abs}
-use Rattle.std.proofs.Common.{get_or}
-use Rattle.std.proofs.lemmas.Bool.{and_parts, false≢true}
-use Rattle.basics.specs.SignedLaws.{signed, one_sided}
-use Rattle.basics.specs.MonthLaws.{days_in_month-bounds}
-use Rattle.basics.specs.Dates.{year_of, month_of, day_of}
-use Rattle.civil_base.specs.DayLaws.{date_of-day}
-use Rattle.civil_base.specs.Layout.{date_digits}
-use Rattle.civil_base.proofs.ReadLemmas.{byte-is, date-listed, found_gives}
+use Rattle.std.proofs.{Common.{arith, ap, sym, unsigned_abs}, Common.{get_or}, lemmas.Bool.{and_parts, false≢true}}
+use Rattle.basics.specs.{SignedLaws.{signed, one_sided}, MonthLaws.{days_in_month-bounds}, Dates.{year_of, month_of, day_of}}
+use Rattle.civil_base.{specs.DayLaws.{date_of-day}, specs.Layout.{date_digits}, proofs.ReadLemmas.{byte-is, date-listed, found_gives}}
 use Rattle.civil_base.proofs.read.parse_date.Goals as goal
 
 pub returns-then-marked-clause-found : goal.returns-then-marked-clause-found

@@ -1,14 +1,8 @@
-use Rattle.std.proofs.Common.{◌≡◌, ℕ, [], ◌++◌, ◌∷◌, List, length, take, Bool, true, false, ℤ, pos, ◌+ℤ◌, ◌*ℤ◌, sym, ap, ◌∙◌}
-use Rattle.std.proofs.Common.{drop, get_or, Some, int_lt, ◌≢◌, if◌then◌else◌}
-use Rattle.std.proofs.lemmas.Int.{by_lt_z}
-use Rattle.std.proofs.lemmas.List.{take-append-drop}
-use Rattle.basics.specs.ComparisonLaws.{lt_pass, lt_fail}
-use Rattle.basics.specs.Dates.{year_of}
-use Rattle.civil_base.specs.Clock.{nanos_per_day}
-use Rattle.civil_base.specs.Layout.{local_text, day_part, time_part, date_digits, time_text, year_sign}
-use Rattle.civil_base.proofs.FoundLemmas.{not_none, same_some}
-use Rattle.civil_base.specs.PartLaws.{day_part-inside, time_part-inside, parts-joined}
+use Rattle.std.proofs.{Common.{◌≡◌, ℕ, [], ◌++◌, ◌∷◌, List, length, take, Bool, true, false, ℤ, pos, ◌+ℤ◌, ◌*ℤ◌, sym, ap, ◌∙◌}, Common.{drop, get_or, Some, int_lt, ◌≢◌, if◌then◌else◌}, lemmas.Int.{by_lt_z}, lemmas.List.{take-append-drop}}
+use Rattle.basics.specs.{ComparisonLaws.{lt_pass, lt_fail}, Dates.{year_of}}
+use Rattle.civil_base.specs.{Clock.{nanos_per_day}, Layout.{local_text, day_part, time_part, date_digits, time_text, year_sign}, PartLaws.{day_part-inside, time_part-inside, parts-joined}}
 use Rattle.civil_base.specs.LayoutLaws.{unsigned_text, local_text-sign, unsigned_text-shape, year_sign-negative, year_sign-other}
+use Rattle.civil_base.proofs.FoundLemmas.{not_none, same_some}
 use Rattle.civil_base.proofs.read.parse_local.Goals as goal
 
 -- what the first split finds in a local text

@@ -1,11 +1,5 @@
-use Rattle.std.proofs.Common.{rules, arith, ◌≡◌, ◌+◌, ◌*◌, ◌/◌, ◌%◌, nat_eq, pos, to_z-of_z, FitsSigned, w32}
-use Rattle.std.proofs.Common.{ap, ◌∙◌, unsigned_abs}
-use Rattle.std.proofs.Common.{get_or, int_lt}
-use Rattle.civil_base.specs.Layout.{offset_text}
-use Rattle.civil_base.specs.RangeLaws.{offset_size}
-use Rattle.civil_base.specs.Offsets.{signed_by}
-use Rattle.civil_base.specs.OffsetLaws.{signed_by-size, minus_is}
-use Rattle.civil_base.proofs.FoundLemmas.{result_ok-found}
+use Rattle.std.proofs.Common.{rules, arith, ◌≡◌, ◌+◌, ◌*◌, ◌/◌, ◌%◌, nat_eq, pos, to_z-of_z, FitsSigned, w32, ap, ◌∙◌, unsigned_abs, get_or, int_lt}
+use Rattle.civil_base.{specs.Layout.{offset_text}, specs.RangeLaws.{offset_size}, specs.Offsets.{signed_by}, specs.OffsetLaws.{signed_by-size, minus_is}, proofs.FoundLemmas.{result_ok-found}}
 use Rattle.civil_base.proofs.read.parse_offset.Goals as goal
 
 pub returns : goal.returns

@@ -1,11 +1,6 @@
-use Rattle.std.proofs.Common.{arith, ◌≡◌, ℕ, ap, sym, ◌∙◌}
-use Rattle.std.proofs.Common.{drop, get_or}
-use Rattle.std.proofs.lemmas.Bool.{and_parts, false≢true}
-use Rattle.civil_base.specs.Clock.{hour_of, minute_of, second_of, nanosecond_of, time_at, IsClockTime}
-use Rattle.civil_base.specs.Layout.{time_text}
-use Rattle.civil_base.specs.ClockLaws.{clock_parts, time_at-parts}
-use Rattle.civil_base.proofs.FoundLemmas.{result_ok-found}
-use Rattle.civil_base.proofs.ReadLemmas.{byte-is, time-listed, ok_gives}
+use Rattle.std.proofs.{Common.{arith, ◌≡◌, ℕ, ap, sym, ◌∙◌}, Common.{drop, get_or}, lemmas.Bool.{and_parts, false≢true}}
+use Rattle.civil_base.specs.{Clock.{hour_of, minute_of, second_of, nanosecond_of, time_at, IsClockTime}, Layout.{time_text}, ClockLaws.{clock_parts, time_at-parts}}
+use Rattle.civil_base.proofs.{FoundLemmas.{result_ok-found}, ReadLemmas.{byte-is, time-listed, ok_gives}}
 use Rattle.civil_base.proofs.read.parse_time.Goals as goal
 
 pub returns-then-marked-clause-found : goal.returns-then-marked-clause-found

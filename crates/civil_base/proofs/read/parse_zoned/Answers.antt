@@ -1,11 +1,6 @@
-use Rattle.std.proofs.Common.{arith, ◌≡◌, ◌≤◌, ℕ, ◌-◌, ◌∷◌, List, length, take, ℤ, sym, ap, ◌∙◌, drop, length-append}
+use Rattle.std.proofs.{Common.{arith, ◌≡◌, ◌≤◌, ℕ, ◌-◌, ◌∷◌, List, length, take, ℤ, sym, ap, ◌∙◌, drop, length-append}, lemmas.List.{take_at, drop_at}}
 use Rattle.basics.specs.SignedLaws.{signed}
-use Rattle.std.proofs.lemmas.List.{take_at, drop_at}
-use Rattle.civil_base.specs.Instants.{local_at}
-use Rattle.civil_base.specs.Layout.{local_text, offset_text, zoned_text}
-use Rattle.civil_base.proofs.FoundLemmas.{not_none, same_some}
-use Rattle.civil_base.proofs.DateTimeLemmas.{instant-parts}
-use Rattle.civil_base.specs.LayoutLaws.{offset_text-length}
+use Rattle.civil_base.{specs.Instants.{local_at}, specs.Layout.{local_text, offset_text, zoned_text}, proofs.FoundLemmas.{not_none, same_some}, proofs.DateTimeLemmas.{instant-parts}, specs.LayoutLaws.{offset_text-length}}
 use Rattle.civil_base.proofs.read.parse_zoned.Goals as goal
 
 -- the two parts of a zoned text

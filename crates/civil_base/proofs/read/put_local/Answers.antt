@@ -1,6 +1,5 @@
 use Rattle.std.proofs.Common.{rules, arith, ℕ, length, take, to_z, of_z, to_z-of_z, FitsSigned, w32, ap, ◌∙◌, length-take}
-use Rattle.basics.specs.Dates.{year_of, month_of, day_of}
-use Rattle.basics.specs.MonthLaws.{days_in_month-bounds}
+use Rattle.basics.specs.{Dates.{year_of, month_of, day_of}, MonthLaws.{days_in_month-bounds}}
 use Rattle.civil_parts.specs.Months.{month_number}
 use Rattle.civil_base.specs.LayoutLaws.{local_text-written}
 use Rattle.civil_base.proofs.read.put_local.Goals as goal

@@ -1,5 +1,4 @@
-use Rattle.std.proofs.Common.{arith, ◌≡◌, ℕ, true, false, ℤ, pos, ◌<ℤ◌, refl, if◌then◌else◌, int_lt}
-use Rattle.std.proofs.lemmas.Int.{ints}
+use Rattle.std.proofs.{Common.{arith, ◌≡◌, ℕ, true, false, ℤ, pos, ◌<ℤ◌, refl, if◌then◌else◌, int_lt}, lemmas.Int.{ints}}
 use Rattle.civil_base.proofs.read.sign_byte.Goals as goal
 
 below : (o : ℤ) → o <ℤ pos 0 → ◌≡◌ {A = ℕ} 45 (if int_lt o (pos 0) then 45 else 43)

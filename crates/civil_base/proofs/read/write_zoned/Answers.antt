@@ -1,8 +1,5 @@
 use Rattle.std.proofs.Common.{arith, ℕ, ◌++◌, ◌∷◌, length, ap, ◌∙◌, length-append}
-use Rattle.civil_base.specs.Layout.{local_text, zoned_text, offset_text}
-use Rattle.civil_base.specs.DateTimes.{instant, offset_of, local_of}
-use Rattle.civil_base.proofs.DateTimeLemmas.{local-instant}
-use Rattle.civil_base.specs.TextLaws.{zoned_text-same}
+use Rattle.civil_base.{specs.Layout.{local_text, zoned_text, offset_text}, specs.DateTimes.{instant, offset_of, local_of}, proofs.DateTimeLemmas.{local-instant}, specs.TextLaws.{zoned_text-same}}
 use Rattle.civil_base.proofs.read.write_zoned.Goals as goal
 
 pub returns-clause-text : goal.returns-clause-text

@@ -1,9 +1,5 @@
-use Rattle.std.proofs.Common.{arith, ◌≡◌, ℕ, ◌<◌, true, false, Option, Some, None, is_some, IfSome, nat_lt, refl, sym, ap, ◌∙◌}
-use Rattle.std.proofs.lemmas.Bool.Decides.{nat_tests}
-use Rattle.civil_items.specs.declared.digits.Digits.{Digits}
-use Rattle.civil_items.specs.Digits.{digit_count}
-use Rattle.civil_items.specs.Codes.{digits_byte}
-use Rattle.civil_items.specs.DigitLaws.{one_number}
+use Rattle.std.proofs.{Common.{arith, ◌≡◌, ℕ, ◌<◌, true, false, Option, Some, None, is_some, IfSome, nat_lt, refl, sym, ap, ◌∙◌}, lemmas.Bool.Decides.{nat_tests}}
+use Rattle.civil_items.specs.{declared.digits.Digits.{Digits}, Digits.{digit_count}, Codes.{digits_byte}, DigitLaws.{one_number}}
 use Rattle.civil_items.proofs.encoding.digits_at.Goals as goal
 
 above_zero : (n m : ℕ) → false ≡ nat_lt 0 n → 0 < m → m ≡ n → ⊥

@@ -1,6 +1,5 @@
 use Rattle.std.proofs.Common.{◌≡◌, length, drop}
-use Rattle.civil_items.specs.ItemTrees.{plain_trees}
-use Rattle.civil_items.specs.Trees.{all_same}
+use Rattle.civil_items.specs.{ItemTrees.{plain_trees}, Trees.{all_same}}
 use Rattle.civil_items.proofs.item_equality.+same.Given as goal
 
 abbrev pub invariant-are_all_same-loop-i : goal.invariant-are_all_same-loop-i

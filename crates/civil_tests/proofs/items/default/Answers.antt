@@ -1,9 +1,5 @@
 use Rattle.std.proofs.Common.{refl, ap, Some}
-use Rattle.civil_items.specs.declared.config.Config.{Config}
-use Rattle.civil_items.specs.declared.digits.Digits.{Digits}
-use Rattle.civil_items.specs.declared.iso8601.TimePrecision.TheVariants.{Second}
-use Rattle.civil_items.specs.Defaults.{default_config, nine}
-use Rattle.civil_items.specs.DigitLaws.{one_number}
+use Rattle.civil_items.specs.{declared.config.Config.{Config}, declared.digits.Digits.{Digits}, declared.iso8601.TimePrecision.TheVariants.{Second}, Defaults.{default_config, nine}, DigitLaws.{one_number}}
 use Rattle.civil_tests.proofs.items.default.Goals as goal
 
 abbrev with_digits : Digits → Config

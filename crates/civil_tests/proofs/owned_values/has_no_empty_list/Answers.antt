@@ -1,6 +1,4 @@
-use Rattle.std.proofs.Common.{rules, tests, ◌==◌, not, length, refl, ◌∙◌}
-use Rattle.std.proofs.lemmas.Iterator.Consumers.{YieldsList-from_rest}
-use Rattle.std.proofs.lemmas.Iterator.Search.{all_from_yields_List}
+use Rattle.std.proofs.{Common.{rules, tests, ◌==◌, not, length, refl, ◌∙◌}, lemmas.Iterator.Consumers.{YieldsList-from_rest}, lemmas.Iterator.Search.{all_from_yields_List}}
 use Rattle.civil_tests.proofs.owned_values.has_no_empty_list.Goals as goal
 
 pub returns : goal.returns

@@ -1,6 +1,6 @@
 use Rattle.pad_fmt.proofs.SinkLemmas.{repeats_cut, repeats_more}
-use Rattle.std.proofs.lemmas.Result.{err_from_is_err_and}
 use Rattle.pad_fmt.proofs.padding.write_repeated.Goals as goal
+use Rattle.std.proofs.lemmas.Result.{err_from_is_err_and}
 
 pub returns-in_err-write_char : goal.returns-in_err-write_char
 returns-in_err-write_char g c = let p = err_from_is_err_and c.from_residual.result c.from_residual.ensures.1 in

@@ -1,5 +1,4 @@
-use Rattle.std.specs.Prelude.{encode_utf8}
-use Rattle.std.specs.List.{repeat}
+use Rattle.std.specs.{Prelude.{encode_utf8}, List.{repeat}}
 use Rattle.pad_fmt.specs.Sink.{Took}
 use Rattle.pad_fmt.proofs.padding.write_repeated.Given as goal
 

@@ -1,9 +1,6 @@
-use Rattle.std.proofs.Common.{arith}
-use Rattle.std.proofs.lemmas.Grind.{common_steps}
-use Rattle.pad_fmt.specs.TextLaws.{take_chars-empty}
-use Rattle.pad_fmt.proofs.TextLemmas.{past_inner_byte, past_first_byte, cut_at_first_byte}
+use Rattle.std.proofs.{Common.{arith}, lemmas.Grind.{common_steps}}
+use Rattle.pad_fmt.{specs.TextLaws.{take_chars-empty}, proofs.TextLemmas.{past_inner_byte, past_first_byte, cut_at_first_byte}, proofs.text.first_chars.Goals.{then-begins_char+else-left-eq0, else-begins_char}}
 use Rattle.pad_fmt.proofs.text.first_chars.Goals as goal
-use Rattle.pad_fmt.proofs.text.first_chars.Goals.{then-begins_char+else-left-eq0, else-begins_char}
 
 pub returns-then-left-eq0 : goal.returns-then-left-eq0
 returns-then-left-eq0 c = grind (arith, common_steps, cut_at_first_byte c.loop-i.i c.args.text.now)

@@ -1,10 +1,6 @@
-use Rattle.std.proofs.Common.{SFits, rules, refl, sym, ap, ◌∙◌, subst, w64}
-use Rattle.std.proofs.lemmas.Int.{to_z-of_z}
-use Rattle.civil_base.specs.DateTimes.{instant}
-use Rattle.civil_base.specs.Instants.{local_at}
-use Rattle.civil_base.specs.Ranges.{is_in_years}
-use Rattle.sefunjaro.specs.AnswerSteps.{IsAround}
-use Rattle.sefunjaro.proofs.AnswerLemmas.{within}
+use Rattle.std.proofs.{Common.{SFits, rules, refl, sym, ap, ◌∙◌, subst, w64}, lemmas.Int.{to_z-of_z}}
+use Rattle.civil_base.specs.{DateTimes.{instant}, Instants.{local_at}, Ranges.{is_in_years}}
+use Rattle.sefunjaro.{specs.AnswerSteps.{IsAround}, proofs.AnswerLemmas.{within}}
 use Rattle.sefunjaro.proofs.answer.answer_at.Goals as goal
 
 pub offset_of-requires-clause-within : goal.offset_of-requires-clause-within

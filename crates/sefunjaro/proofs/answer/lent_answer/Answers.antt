@@ -1,13 +1,8 @@
-use Rattle.std.proofs.Common.{◌≡◌, ◌<◌, ◌≤◌, ◌∙◌, ℤ, pos, unsigned_abs, ◌+ℤ◌, ◌≤ℤ◌, ◌<ℤ◌, SFits, rules, sym, ap, subst, to_z, of_z, w32, w64, arith}
-use Rattle.std.proofs.lemmas.Int.{to_z-of_z, ints}
-use Rattle.civil_base.specs.DateTimes.{instant}
-use Rattle.civil_base.specs.Instants.{seconds_of}
-use Rattle.civil_base.specs.Layout.{day_part, time_part}
-use Rattle.tz_tzif.specs.InForce.{kind_at, kind_in, told_total_at}
-use Rattle.tz_tzif.specs.Zones.{value_of, says_of, IsOfKind}
+use Rattle.std.proofs.{Common.{◌≡◌, ◌<◌, ◌≤◌, ◌∙◌, ℤ, pos, unsigned_abs, ◌+ℤ◌, ◌≤ℤ◌, ◌<ℤ◌, SFits, rules, sym, ap, subst, to_z, of_z, w32, w64, arith}, lemmas.Int.{to_z-of_z, ints}}
+use Rattle.civil_base.specs.{DateTimes.{instant}, Instants.{seconds_of}, Layout.{day_part, time_part}}
+use Rattle.tz_tzif.specs.{InForce.{kind_at, kind_in, told_total_at}, Zones.{value_of, says_of, IsOfKind}}
 use Rattle.zone_tzif_core.specs.Zones.{KindValue}
-use Rattle.sefunjaro.specs.Clocks.{clock_at}
-use Rattle.sefunjaro.proofs.AnswerLemmas.{local_is, kept_kind}
+use Rattle.sefunjaro.{specs.Clocks.{clock_at}, proofs.AnswerLemmas.{local_is, kept_kind}}
 use Rattle.sefunjaro.proofs.answer.lent_answer.Goals as goal
 
 pub returns-clause-answer : goal.returns-clause-answer

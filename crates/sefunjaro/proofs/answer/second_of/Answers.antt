@@ -1,8 +1,5 @@
-use Rattle.std.proofs.Common.{◌∙◌, SFits, rules, subst, w64}
-use Rattle.std.proofs.lemmas.Int.{to_z-of_z}
-use Rattle.civil_base.specs.DateTimes.{instant, offset_of}
-use Rattle.civil_base.specs.Instants.{local_at}
-use Rattle.civil_base.specs.Ranges.{IsInYears}
+use Rattle.std.proofs.{Common.{◌∙◌, SFits, rules, subst, w64}, lemmas.Int.{to_z-of_z}}
+use Rattle.civil_base.specs.{DateTimes.{instant, offset_of}, Instants.{local_at}, Ranges.{IsInYears}}
 use Rattle.sefunjaro.proofs.AnswerLemmas.{early_second}
 use Rattle.sefunjaro.proofs.answer.second_of.Goals as goal
 

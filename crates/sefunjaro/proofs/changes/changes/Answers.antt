@@ -1,9 +1,6 @@
-use Rattle.std.proofs.Common.{◌≡◌, ◌<◌, length, to_z, of_z, to_z-of_z, w64, subst, arith}
-use Rattle.std.proofs.lemmas.List.{length-map}
+use Rattle.std.proofs.{Common.{◌≡◌, ◌<◌, length, to_z, of_z, to_z-of_z, w64, subst, arith}, lemmas.List.{length-map}}
 use Rattle.tz_zone.specs.Sets.{shift_of}
-use Rattle.sefunjaro.specs.Changes.{window}
-use Rattle.sefunjaro.specs.Rooms.{filled}
-use Rattle.sefunjaro.proofs.ChangeLemmas.{met_all, met_more, met_none}
+use Rattle.sefunjaro.{specs.Changes.{window}, specs.Rooms.{filled}, proofs.ChangeLemmas.{met_all, met_more, met_none}}
 use Rattle.sefunjaro.proofs.changes.changes.Goals as goal
 
 pub loop-place-init : goal.loop-place-init

@@ -1,7 +1,5 @@
-use Rattle.std.proofs.Common.{◌≡◌, ◌+◌, ◌∙◌, map, drop, to_z, of_z, to_z-of_z, w64, ap, subst, arith}
-use Rattle.std.specs.Prelude.{None, Some, filter, int_lt}
-use Rattle.sefunjaro.specs.Changes.{change_of, next_after, settled_changes}
-use Rattle.sefunjaro.proofs.ChangeLemmas.{later_from, left_after, next_found, none_next}
+use Rattle.std.{proofs.Common.{◌≡◌, ◌+◌, ◌∙◌, map, drop, to_z, of_z, to_z-of_z, w64, ap, subst, arith}, specs.Prelude.{None, Some, filter, int_lt}}
+use Rattle.sefunjaro.{specs.Changes.{change_of, next_after, settled_changes}, proofs.ChangeLemmas.{later_from, left_after, next_found, none_next}}
 use Rattle.sefunjaro.proofs.changes.next_change.Goals as goal
 
 pub loop-place-init : goal.loop-place-init

@@ -1,5 +1,4 @@
-use Rattle.std.proofs.Common.{refl, arith}
-use Rattle.std.specs.Prelude.{Some, None}
+use Rattle.std.{proofs.Common.{refl, arith}, specs.Prelude.{Some, None}}
 use Rattle.sefunjaro.proofs.changes.put_change.Goals as goal
 
 pub returns-in-Some : goal.returns-in-Some

@@ -1,6 +1,5 @@
 use Rattle.std.proofs.Common.{◌∙◌, to_z, of_z, to_z-of_z, w64, ap}
-use Rattle.sefunjaro.specs.Changes.{span_before}
-use Rattle.sefunjaro.proofs.ChangeLemmas.{before_is}
+use Rattle.sefunjaro.{specs.Changes.{span_before}, proofs.ChangeLemmas.{before_is}}
 use Rattle.sefunjaro.proofs.changes.span_before.Goals as goal
 
 pub returns : goal.returns

@@ -1,7 +1,5 @@
 use Rattle.std.proofs.Common.{◌≡◌, ◌∙◌, sym, ap}
-use Rattle.tz_tzif.specs.FooterForce.{standard_total}
-use Rattle.tz_tzif.specs.Shown.{text_shown}
-use Rattle.tz_tzif.specs.Values.{FooterValue}
+use Rattle.tz_tzif.specs.{FooterForce.{standard_total}, Shown.{text_shown}, Values.{FooterValue}}
 use Rattle.sefunjaro.proofs.FileLemmas.{standard_of, told}
 use Rattle.sefunjaro.proofs.file.standard_of.Goals as goal
 

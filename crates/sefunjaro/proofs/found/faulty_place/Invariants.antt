@@ -1,6 +1,5 @@
 use Rattle.std.proofs.Common.{◌<◌, ℕ, get_or}
-use Rattle.sefunjaro.specs.Clocks.{IsClock}
-use Rattle.sefunjaro.specs.declared.clock.Clock.{Clock}
+use Rattle.sefunjaro.specs.{Clocks.{IsClock}, declared.clock.Clock.{Clock}}
 use Rattle.sefunjaro.proofs.found.faulty_place.Given as goal
 
 -- those so far are local times

@@ -1,9 +1,5 @@
 use Rattle.std.proofs.Common.{◌≡◌, ◌<◌, ◌≤◌, ℕ, get_or}
-use Rattle.sefunjaro.specs.Clocks.{clock_shown}
-use Rattle.sefunjaro.specs.Found.{IsFound}
-use Rattle.sefunjaro.specs.Stretches.{IsKnown}
-use Rattle.sefunjaro.specs.declared.clock.Clock.{Clock}
-use Rattle.sefunjaro.specs.declared.found.Found.{Found}
+use Rattle.sefunjaro.specs.{Clocks.{clock_shown}, Found.{IsFound}, Stretches.{IsKnown}, declared.clock.Clock.{Clock}, declared.found.Found.{Found}}
 use Rattle.sefunjaro.proofs.found.fill_found.Given as goal
 
 -- the items so far are what is found, behind them is what was there, and what is remembered is so

@@ -1,8 +1,6 @@
-use Rattle.std.proofs.Common.{◌∙◌, map, sym}
-use Rattle.std.proofs.lemmas.List.{length-map}
+use Rattle.std.proofs.{Common.{◌∙◌, map, sym}, lemmas.List.{length-map}}
 use Rattle.tz_zone.specs.InForce.{all_in_force}
-use Rattle.sefunjaro.specs.Asked.{reading_of}
-use Rattle.sefunjaro.proofs.FoundLemmas.{among_is}
+use Rattle.sefunjaro.{specs.Asked.{reading_of}, proofs.FoundLemmas.{among_is}}
 use Rattle.sefunjaro.proofs.found.find.Goals as goal
 
 pub returns-else-count-eq0 : goal.returns-else-count-eq0

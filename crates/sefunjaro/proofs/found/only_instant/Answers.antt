@@ -1,7 +1,6 @@
 use Rattle.std.proofs.Common.{FitsSigned, w32, w64, rules, to_z-of_z, arith}
 use Rattle.basics.specs.SignedLaws.{signed_casts}
-use Rattle.sefunjaro.proofs.FoundLemmas.{by_offset_is}
-use Rattle.sefunjaro.proofs.OnlyLemmas.{found_only}
+use Rattle.sefunjaro.proofs.{FoundLemmas.{by_offset_is}, OnlyLemmas.{found_only}}
 use Rattle.sefunjaro.proofs.found.only_instant.Goals as goal
 
 pub returns-then-second-known : goal.returns-then-second-known

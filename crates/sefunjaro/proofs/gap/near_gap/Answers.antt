@@ -1,9 +1,7 @@
-use Rattle.std.proofs.Common.{◌≡◌, ℤ, pos, ◌-ℤ◌, IsTrue, FitsSigned, w32, w64, to_z, of_z, to_z-of_z, rules, sym, ap, ◌∙◌, subst, arith}
-use Rattle.std.proofs.lemmas.Int.{ints}
+use Rattle.std.proofs.{Common.{◌≡◌, ℤ, pos, ◌-ℤ◌, IsTrue, FitsSigned, w32, w64, to_z, of_z, to_z-of_z, rules, sym, ap, ◌∙◌, subst, arith}, lemmas.Int.{ints}}
 use Rattle.basics.specs.ComparisonLaws.{le_from_fail}
 use Rattle.civil_base.specs.Instants.{instant_at, seconds_of}
-use Rattle.sefunjaro.proofs.FoundLemmas.{at_utc}
-use Rattle.sefunjaro.proofs.GapLemmas.{skipped_at}
+use Rattle.sefunjaro.proofs.{FoundLemmas.{at_utc}, GapLemmas.{skipped_at}}
 use Rattle.sefunjaro.proofs.gap.near_gap.Goals as goal
 
 pub returns-then-is_skipped : goal.returns-then-is_skipped

@@ -1,6 +1,5 @@
 use Rattle.std.proofs.Common.{◌+◌, ◌-◌, ◌/◌, arith}
-use Rattle.sefunjaro.specs.GapPlaces.{nth_offset}
-use Rattle.sefunjaro.proofs.GapLemmas.{falls_short}
+use Rattle.sefunjaro.{specs.GapPlaces.{nth_offset}, proofs.GapLemmas.{falls_short}}
 use Rattle.sefunjaro.proofs.gap.skipped.Goals as goal
 
 pub loop-high-preserved : goal.loop-high-preserved

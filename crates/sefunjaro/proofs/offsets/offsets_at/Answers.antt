@@ -1,9 +1,7 @@
-use Rattle.std.proofs.Common.{◌∙◌, suc, ℤ, pos, drop, get_or, SFits, w32, w64, rules, refl, sym, ap, arith}
-use Rattle.std.proofs.lemmas.Int.{to_z-of_z}
+use Rattle.std.proofs.{Common.{◌∙◌, suc, ℤ, pos, drop, get_or, SFits, w32, w64, rules, refl, sym, ap, arith}, lemmas.Int.{to_z-of_z}}
 use Rattle.basics.specs.SignedLaws.{signed}
 use Rattle.civil_base.specs.Instants.{nanos_of}
-use Rattle.sefunjaro.specs.Rooms.{filled, filled_at}
-use Rattle.sefunjaro.proofs.AskLemmas.{drop_here, one_more}
+use Rattle.sefunjaro.{specs.Rooms.{filled, filled_at}, proofs.AskLemmas.{drop_here, one_more}}
 use Rattle.sefunjaro.proofs.offsets.offsets_at.Goals as goal
 
 pub loop-i-init : goal.loop-i-init

@@ -1,7 +1,6 @@
 use Rattle.std.proofs.Common.{◌≡◌, map, take}
 use Rattle.civil_base.specs.Instants.{nanos_of}
-use Rattle.sefunjaro.specs.Rooms.{filled}
-use Rattle.sefunjaro.specs.Stretches.{IsKnown}
+use Rattle.sefunjaro.specs.{Rooms.{filled}, Stretches.{IsKnown}}
 use Rattle.sefunjaro.proofs.offsets.offsets_at.Given as goal
 
 -- those of the seconds so far stand in the room, as far as they fit, and what is remembered is so

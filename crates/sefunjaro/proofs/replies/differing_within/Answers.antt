@@ -1,9 +1,5 @@
-use Rattle.std.proofs.Common.{◌≡◌, length, to_z, of_z, to_z-of_z, w64, ap, sym, ◌∙◌}
-use Rattle.std.proofs.lemmas.Result.{IfOk-weaker}
-use Rattle.sefunjaro.specs.Changes.{window}
-use Rattle.sefunjaro.specs.Replies.{differing}
-use Rattle.sefunjaro.specs.Zones.{spans_in}
-use Rattle.sefunjaro.proofs.ReplyLemmas.{filled_all}
+use Rattle.std.proofs.{Common.{◌≡◌, length, to_z, of_z, to_z-of_z, w64, ap, sym, ◌∙◌}, lemmas.Result.{IfOk-weaker}}
+use Rattle.sefunjaro.{specs.Changes.{window}, specs.Replies.{differing}, specs.Zones.{spans_in}, proofs.ReplyLemmas.{filled_all}}
 use Rattle.sefunjaro.proofs.replies.differing_within.Goals as goal
 
 pub returns : goal.returns

@@ -1,11 +1,7 @@
-use Rattle.std.proofs.Common.{◌≡◌, to_z, of_z, to_z-of_z, w64, sym, ap, ◌∙◌, subst}
-use Rattle.std.proofs.lemmas.Result.{IfOk-weaker}
-use Rattle.zone_replies.specs.Forces.{force_shown}
-use Rattle.zone_replies.specs.declared.force.Force.{Force}
-use Rattle.tz_zone.specs.Sets.{shifts_of}
-use Rattle.tz_zone.specs.Spans.{IsCut}
-use Rattle.sefunjaro.specs.Replies.{force_of, span_on}
-use Rattle.sefunjaro.proofs.ChangeLemmas.{on_is}
+use Rattle.std.proofs.{Common.{◌≡◌, to_z, of_z, to_z-of_z, w64, sym, ap, ◌∙◌, subst}, lemmas.Result.{IfOk-weaker}}
+use Rattle.zone_replies.specs.{Forces.{force_shown}, declared.force.Force.{Force}}
+use Rattle.tz_zone.specs.{Sets.{shifts_of}, Spans.{IsCut}}
+use Rattle.sefunjaro.{specs.Replies.{force_of, span_on}, proofs.ChangeLemmas.{on_is}}
 use Rattle.sefunjaro.proofs.replies.force_on.Goals as goal
 
 pub force_by-requires : goal.force_by-requires

@@ -1,10 +1,6 @@
-use Rattle.std.proofs.Common.{◌≡◌, to_z, of_z, to_z-of_z, w64, sym, ap, ◌∙◌}
-use Rattle.std.proofs.lemmas.Result.{IfOk-weaker}
-use Rattle.zone_replies.specs.Forces.{force_shown}
-use Rattle.zone_replies.specs.declared.force.Force.{Force}
-use Rattle.sefunjaro.specs.Changes.{span_before}
-use Rattle.sefunjaro.specs.Replies.{force_of}
-use Rattle.sefunjaro.proofs.ChangeLemmas.{before_is}
+use Rattle.std.proofs.{Common.{◌≡◌, to_z, of_z, to_z-of_z, w64, sym, ap, ◌∙◌}, lemmas.Result.{IfOk-weaker}}
+use Rattle.zone_replies.specs.{Forces.{force_shown}, declared.force.Force.{Force}}
+use Rattle.sefunjaro.{specs.Changes.{span_before}, specs.Replies.{force_of}, proofs.ChangeLemmas.{before_is}}
 use Rattle.sefunjaro.proofs.replies.force_until.Goals as goal
 
 pub force_by-requires : goal.force_by-requires

@@ -1,6 +1,5 @@
 use Rattle.std.proofs.Common.{◌≡◌, ◌++◌, map}
-use Rattle.tz_lookup.specs.AllLeft.{all_left}
-use Rattle.tz_lookup.specs.InForce.{all_in_force, shown_of}
+use Rattle.tz_lookup.specs.{AllLeft.{all_left}, InForce.{all_in_force, shown_of}}
 use Rattle.sefunjaro.proofs.replies.instants_of.Given as goal
 
 abbrev pub invariant-loop-date : goal.invariant-loop-date

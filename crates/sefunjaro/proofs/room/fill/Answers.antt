@@ -1,6 +1,4 @@
-use Rattle.std.proofs.Common.{◌≡◌, ◌++◌, length, take, drop, ap, ◌∙◌, arith}
-use Rattle.std.specs.Prelude.{min}
-use Rattle.std.proofs.lemmas.List.{take_min, drop_min}
+use Rattle.std.{proofs.Common.{◌≡◌, ◌++◌, length, take, drop, ap, ◌∙◌, arith}, specs.Prelude.{min}, proofs.lemmas.List.{take_min, drop_min}}
 use Rattle.sefunjaro.proofs.RoomLemmas.{filled_is}
 use Rattle.sefunjaro.proofs.room.fill.Goals as goal
 

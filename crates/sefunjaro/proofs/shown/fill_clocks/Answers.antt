@@ -1,11 +1,7 @@
-use Rattle.std.proofs.Common.{◌∙◌, suc, pos, drop, get_or, SFits, w32, w64, rules, refl, sym, ap, arith}
-use Rattle.std.proofs.lemmas.Int.{to_z-of_z}
+use Rattle.std.proofs.{Common.{◌∙◌, suc, pos, drop, get_or, SFits, w32, w64, rules, refl, sym, ap, arith}, lemmas.Int.{to_z-of_z}}
 use Rattle.basics.specs.SignedLaws.{signed}
 use Rattle.civil_base.specs.Instants.{local_at, nanos_of}
-use Rattle.sefunjaro.specs.Rooms.{filled, filled_at}
-use Rattle.sefunjaro.specs.Shown.{clock_shown_at}
-use Rattle.sefunjaro.proofs.AskLemmas.{drop_here, one_more}
-use Rattle.sefunjaro.proofs.ShownLemmas.{clock_is}
+use Rattle.sefunjaro.{specs.Rooms.{filled, filled_at}, specs.Shown.{clock_shown_at}, proofs.AskLemmas.{drop_here, one_more}, proofs.ShownLemmas.{clock_is}}
 use Rattle.sefunjaro.proofs.shown.fill_clocks.Goals as goal
 
 pub loop-i-init : goal.loop-i-init

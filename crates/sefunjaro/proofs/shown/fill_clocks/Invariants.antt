@@ -1,7 +1,5 @@
 use Rattle.std.proofs.Common.{◌≡◌, take}
-use Rattle.sefunjaro.specs.Rooms.{filled}
-use Rattle.sefunjaro.specs.Shown.{clocks_of}
-use Rattle.sefunjaro.specs.Stretches.{IsKnown}
+use Rattle.sefunjaro.specs.{Rooms.{filled}, Shown.{clocks_of}, Stretches.{IsKnown}}
 use Rattle.sefunjaro.proofs.shown.fill_clocks.Given as goal
 
 -- those of the seconds so far stand in the room, as far as they fit, and what is remembered is so

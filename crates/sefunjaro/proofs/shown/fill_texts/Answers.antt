@@ -1,13 +1,7 @@
-use Rattle.std.proofs.Common.{◌∙◌, ◌∷◌, pos, get_or, length, take, SFits, to_z, of_z, w32, w64, rules, refl, sym, ap, subst, arith, length-append}
-use Rattle.std.proofs.lemmas.Int.{to_z-of_z}
+use Rattle.std.proofs.{Common.{◌∙◌, ◌∷◌, pos, get_or, length, take, SFits, to_z, of_z, w32, w64, rules, refl, sym, ap, subst, arith, length-append}, lemmas.Int.{to_z-of_z}}
 use Rattle.basics.specs.SignedLaws.{signed}
-use Rattle.civil_base.specs.Instants.{local_at, nanos_of}
-use Rattle.civil_base.specs.Layout.{offset_text}
-use Rattle.civil_base.specs.Ranges.{IsOffset}
-use Rattle.sefunjaro.specs.Rooms.{filled, filled_from}
-use Rattle.sefunjaro.specs.Shown.{line_of, texts_of}
-use Rattle.sefunjaro.proofs.RoomLemmas.{filled_behind}
-use Rattle.sefunjaro.proofs.ShownLemmas.{line_is, texts_taken}
+use Rattle.civil_base.specs.{Instants.{local_at, nanos_of}, Layout.{offset_text}, Ranges.{IsOffset}}
+use Rattle.sefunjaro.{specs.Rooms.{filled, filled_from}, specs.Shown.{line_of, texts_of}, proofs.RoomLemmas.{filled_behind}, proofs.ShownLemmas.{line_is, texts_taken}}
 use Rattle.sefunjaro.proofs.shown.fill_texts.Goals as goal
 
 pub loop-i-init : goal.loop-i-init

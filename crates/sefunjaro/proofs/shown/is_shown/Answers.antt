@@ -1,7 +1,5 @@
-use Rattle.std.proofs.Common.{ℤ, to_z-of_z, sym, subst}
-use Rattle.std.proofs.lemmas.Bool.{and_from}
-use Rattle.civil_base.specs.Instants.{local_at, nanos_of}
-use Rattle.civil_base.specs.Ranges.{IsInYears, IsOffset}
+use Rattle.std.proofs.{Common.{ℤ, to_z-of_z, sym, subst}, lemmas.Bool.{and_from}}
+use Rattle.civil_base.specs.{Instants.{local_at, nanos_of}, Ranges.{IsInYears, IsOffset}}
 use Rattle.sefunjaro.proofs.shown.is_shown.Goals as goal
 
 pub returns-then-is_inside : goal.returns-then-is_inside

@@ -1,7 +1,5 @@
 use Rattle.std.proofs.Common.{◌∙◌, pos, ◌+ℤ◌, ◌*ℤ◌}
-use Rattle.civil_base.specs.Clock.{nanos_per_day}
-use Rattle.civil_base.specs.DateTimes.{local_of}
-use Rattle.civil_base.specs.PartLaws.{parts-joined}
+use Rattle.civil_base.specs.{Clock.{nanos_per_day}, DateTimes.{local_of}, PartLaws.{parts-joined}}
 use Rattle.sefunjaro.proofs.shown.local_of.Goals as goal
 
 pub returns : goal.returns

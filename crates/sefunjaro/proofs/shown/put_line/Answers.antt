@@ -1,10 +1,6 @@
 use Rattle.std.proofs.Common.{◌≡◌, ◌∙◌, ◌+◌, ◌∷◌, ◌++◌, [], length, ap, arith, length-append}
-use Rattle.civil_base.specs.Instants.{instant_at}
-use Rattle.civil_base.specs.Layout.{local_text, offset_text, zoned_text}
-use Rattle.civil_base.specs.LayoutLaws.{offset_text-length}
-use Rattle.sefunjaro.specs.Rooms.{filled_at, filled_from}
-use Rattle.sefunjaro.proofs.RoomLemmas.{from_behind, from_more}
-use Rattle.sefunjaro.proofs.ShownLemmas.{text_by_local}
+use Rattle.civil_base.specs.{Instants.{instant_at}, Layout.{local_text, offset_text, zoned_text}, LayoutLaws.{offset_text-length}}
+use Rattle.sefunjaro.{specs.Rooms.{filled_at, filled_from}, proofs.RoomLemmas.{from_behind, from_more}, proofs.ShownLemmas.{text_by_local}}
 use Rattle.sefunjaro.proofs.shown.put_line.Goals as goal
 
 pub returns-clause-room : goal.returns-clause-room

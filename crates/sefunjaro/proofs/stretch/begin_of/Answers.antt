@@ -1,5 +1,4 @@
-use Rattle.std.proofs.Common.{◌-◌, ◌≤ℤ◌, w64, SFits, rules, sym, ◌∙◌, subst, arith}
-use Rattle.std.proofs.lemmas.Int.{to_z-of_z}
+use Rattle.std.proofs.{Common.{◌-◌, ◌≤ℤ◌, w64, SFits, rules, sym, ◌∙◌, subst, arith}, lemmas.Int.{to_z-of_z}}
 use Rattle.basics.specs.ComparisonLaws.{le_le}
 use Rattle.sefunjaro.proofs.stretch.begin_of.Goals as goal
 

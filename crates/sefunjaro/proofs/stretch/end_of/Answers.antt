@@ -1,6 +1,4 @@
-use Rattle.std.proofs.Common.{◌<ℤ◌, w64, SFits, rules, ◌∙◌, sym, subst, arith}
-use Rattle.std.proofs.lemmas.Int.{to_z-of_z}
-use Rattle.std.proofs.lemmas.List.{length-map}
+use Rattle.std.proofs.{Common.{◌<ℤ◌, w64, SFits, rules, ◌∙◌, sym, subst, arith}, lemmas.Int.{to_z-of_z}, lemmas.List.{length-map}}
 use Rattle.basics.specs.ComparisonLaws.{lt_le}
 use Rattle.tz_zone.specs.Sets.{shift_of}
 use Rattle.sefunjaro.proofs.stretch.end_of.Goals as goal

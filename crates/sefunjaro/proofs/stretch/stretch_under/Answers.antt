@@ -1,7 +1,5 @@
-use Rattle.std.proofs.Common.{◌≤ℤ◌, ◌<ℤ◌, SFits, rules, sym, ◌∙◌, subst, w32, w64}
-use Rattle.std.proofs.lemmas.Int.{to_z-of_z}
-use Rattle.tz_zone.specs.Sets.{schedule_of, shifts_of}
-use Rattle.tz_zone.specs.Spans.{IsCut}
+use Rattle.std.proofs.{Common.{◌≤ℤ◌, ◌<ℤ◌, SFits, rules, sym, ◌∙◌, subst, w32, w64}, lemmas.Int.{to_z-of_z}}
+use Rattle.tz_zone.specs.{Sets.{schedule_of, shifts_of}, Spans.{IsCut}}
 use Rattle.tz_lookup.specs.CompactShown.{seen}
 use Rattle.sefunjaro.proofs.StretchLemmas.{at_second}
 use Rattle.sefunjaro.proofs.stretch.stretch_under.Goals as goal

@@ -1,10 +1,7 @@
 use Rattle.std.proofs.Common.{◌≡◌, length, sym, subst}
-use Rattle.tz_ever.specs.Ever.{ever_total}
-use Rattle.tz_ever.specs.EverShown.{ever_seen}
-use Rattle.tz_ever.specs.EverZones.{ever_of}
+use Rattle.tz_ever.specs.{Ever.{ever_total}, EverShown.{ever_seen}, EverZones.{ever_of}}
 use Rattle.tz_zone.specs.InForce.{all_in_force}
-use Rattle.sefunjaro.specs.GapPlaces.{HoldsSeconds}
-use Rattle.sefunjaro.proofs.GapLemmas.{never_read}
+use Rattle.sefunjaro.{specs.GapPlaces.{HoldsSeconds}, proofs.GapLemmas.{never_read}}
 use Rattle.sefunjaro.proofs.zone.ever_gap.Goals as goal
 
 pub near_gap-requires : goal.near_gap-requires

@@ -1,5 +1,4 @@
-use Rattle.tz_tzif.specs.InForce.{told_total_at}
-use Rattle.tz_tzif.specs.Zones.{value_of, says_of}
+use Rattle.tz_tzif.specs.{InForce.{told_total_at}, Zones.{value_of, says_of}}
 use Rattle.sefunjaro.proofs.GapLemmas.{file_holds, never_read}
 use Rattle.sefunjaro.proofs.zone.lent_gap.Goals as goal
 

@@ -1,11 +1,6 @@
-use Rattle.std.proofs.Common.{◌≡◌, ◌∷◌, ◌∙◌, length, map, drop, sym, refl, ap, arith}
-use Rattle.std.proofs.lemmas.List.{length-map}
-use Rattle.tz_lookup.specs.AllLeft.{all_left}
-use Rattle.tz_lookup.specs.InForce.{all_in_force, shown_of}
-use Rattle.tz_lookup.specs.InstantLaws.{few_instants}
-use Rattle.sefunjaro.specs.Asked.{reading_of}
-use Rattle.sefunjaro.specs.Rooms.{filled, filled_at}
-use Rattle.sefunjaro.proofs.AskLemmas.{one_more, dropped}
+use Rattle.std.proofs.{Common.{◌≡◌, ◌∷◌, ◌∙◌, length, map, drop, sym, refl, ap, arith}, lemmas.List.{length-map}}
+use Rattle.tz_lookup.specs.{AllLeft.{all_left}, InForce.{all_in_force, shown_of}, InstantLaws.{few_instants}}
+use Rattle.sefunjaro.{specs.Asked.{reading_of}, specs.Rooms.{filled, filled_at}, proofs.AskLemmas.{one_more, dropped}}
 use Rattle.sefunjaro.proofs.zone.readings.Goals as goal
 
 pub loop-date-init : goal.loop-date-init

@@ -1,8 +1,6 @@
 use Rattle.std.proofs.Common.{◌≡◌, ◌+◌, ◌≤◌, length, map, take, drop}
-use Rattle.tz_lookup.specs.AllLeft.{all_left}
-use Rattle.tz_lookup.specs.InForce.{all_in_force, shown_of}
-use Rattle.sefunjaro.specs.Asked.{reading_of}
-use Rattle.sefunjaro.specs.Rooms.{filled}
+use Rattle.tz_lookup.specs.{AllLeft.{all_left}, InForce.{all_in_force, shown_of}}
+use Rattle.sefunjaro.specs.{Asked.{reading_of}, Rooms.{filled}}
 use Rattle.sefunjaro.proofs.zone.readings.Given as goal
 
 -- as many instants as were met stand in the room, as far as they fit, and the others are left

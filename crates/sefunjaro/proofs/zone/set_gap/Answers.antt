@@ -2,8 +2,7 @@ use Rattle.std.proofs.Common.{◌≡◌, sym, subst}
 use Rattle.tz_lookup.specs.CompactShown.{seen}
 use Rattle.zone_spans.specs.Schedules.{total_at}
 use Rattle.tz_zone.specs.Sets.{schedule_of}
-use Rattle.sefunjaro.specs.GapPlaces.{IsNeverRead}
-use Rattle.sefunjaro.proofs.GapLemmas.{never_read, schedule_holds}
+use Rattle.sefunjaro.{specs.GapPlaces.{IsNeverRead}, proofs.GapLemmas.{never_read, schedule_holds}}
 use Rattle.sefunjaro.proofs.zone.set_gap.Goals as goal
 
 pub near_gap-requires : goal.near_gap-requires

@@ -1,8 +1,5 @@
 use Rattle.std.proofs.Common.{sym, subst}
-use Rattle.sefunjaro_c.specs.AnySources.{any_due, IsAnySourceOf}
-use Rattle.sefunjaro_c.specs.Faults.{IsRefused}
-use Rattle.sefunjaro_c.proofs.AnySourceLemmas.{any_opened, any_refused}
-use Rattle.sefunjaro_c.proofs.FaultLemmas.{held_source}
+use Rattle.sefunjaro_c.{specs.AnySources.{any_due, IsAnySourceOf}, specs.Faults.{IsRefused}, proofs.AnySourceLemmas.{any_opened, any_refused}, proofs.FaultLemmas.{held_source}}
 use Rattle.sefunjaro_c.proofs.any_source.open_any.Goals as goal
 
 pub returns-in-Ok-source-clause-ok : goal.returns-in-Ok-source-clause-ok

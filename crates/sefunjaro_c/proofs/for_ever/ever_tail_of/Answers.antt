@@ -1,7 +1,6 @@
 use Rattle.std.proofs.Common.{◌∙◌, inl, length, string_bytes, sym, ap, subst}
-use Rattle.sefunjaro.specs.PosixNames.{IsSpelled}
+use Rattle.sefunjaro.specs.{PosixNames.{IsSpelled}, Rooms.{filled}}
 use Rattle.tz_posix.specs.Spells.{Spells}
-use Rattle.sefunjaro.specs.Rooms.{filled}
 use Rattle.sefunjaro_c.proofs.for_ever.ever_tail_of.Goals as goal
 
 pub returns-in-Ok-clause-answer : goal.returns-in-Ok-clause-answer

@@ -1,8 +1,5 @@
-use Rattle.std.proofs.Common.{◌≡◌, ◌∙◌, pos, get_or, false, SFits, rules, w64, sym, ap, arith}
-use Rattle.std.proofs.lemmas.Int.{to_z-of_z}
-use Rattle.std.proofs.lemmas.List.{get_or_default}
-use Rattle.civil_base.specs.Instants.{nanos_of}
-use Rattle.civil_base.specs.Ranges.{is_in_years}
+use Rattle.std.proofs.{Common.{◌≡◌, ◌∙◌, pos, get_or, false, SFits, rules, w64, sym, ap, arith}, lemmas.Int.{to_z-of_z}, lemmas.List.{get_or_default}}
+use Rattle.civil_base.specs.{Instants.{nanos_of}, Ranges.{is_in_years}}
 use Rattle.sefunjaro_c.proofs.ListLemmas.{found, none_far}
 use Rattle.sefunjaro_c.proofs.lists.far_place.Goals as goal
 

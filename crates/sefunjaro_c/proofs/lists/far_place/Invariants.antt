@@ -1,6 +1,5 @@
 use Rattle.std.proofs.Common.{◌≡◌, ◌<◌, ℕ, ℤ, get_or, true}
-use Rattle.civil_base.specs.Instants.{nanos_of}
-use Rattle.civil_base.specs.Ranges.{is_in_years}
+use Rattle.civil_base.specs.{Instants.{nanos_of}, Ranges.{is_in_years}}
 use Rattle.sefunjaro_c.proofs.lists.far_place.Given as goal
 
 -- the seconds so far lie in the years

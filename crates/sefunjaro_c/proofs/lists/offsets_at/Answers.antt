@@ -1,12 +1,7 @@
-use Rattle.std.proofs.Common.{◌≡◌, ◌∙◌, refl, sym, subst}
-use Rattle.std.specs.Arc.{arc_value}
-use Rattle.sefunjaro.specs.Any.{Seen}
-use Rattle.sefunjaro.specs.Offsets.{offsets_of}
-use Rattle.sefunjaro.specs.Rooms.{filled}
+use Rattle.std.{proofs.Common.{◌≡◌, ◌∙◌, refl, sym, subst}, specs.Arc.{arc_value}}
+use Rattle.sefunjaro.specs.{Any.{Seen}, Offsets.{offsets_of}, Rooms.{filled}}
 use Rattle.sefunjaro_handles.specs.declared.opened.Opened.TheVariants.{Zone}
-use Rattle.sefunjaro_c.specs.Lists.{far_place, OfPlace}
-use Rattle.sefunjaro_c.proofs.AskedLemmas.{of_zone}
-use Rattle.sefunjaro_c.proofs.ListLemmas.{all_in_years}
+use Rattle.sefunjaro_c.{specs.Lists.{far_place, OfPlace}, proofs.AskedLemmas.{of_zone}, proofs.ListLemmas.{all_in_years}}
 use Rattle.sefunjaro_c.proofs.lists.offsets_at.Goals as goal
 
 pub offsets_at-requires : goal.offsets_at-requires

@@ -1,14 +1,7 @@
-use Rattle.std.proofs.Common.{◌≡◌, length, subst}
-use Rattle.std.specs.Arc.{arc_value}
-use Rattle.std.specs.Prelude.{Ok, Err}
-use Rattle.sefunjaro.specs.Any.{Seen}
-use Rattle.sefunjaro.specs.Rooms.{filled}
-use Rattle.sefunjaro.specs.Shown.{texts_of, textless_place, AreTexts}
+use Rattle.std.{proofs.Common.{◌≡◌, length, subst}, specs.Arc.{arc_value}, specs.Prelude.{Ok, Err}}
+use Rattle.sefunjaro.specs.{Any.{Seen}, Rooms.{filled}, Shown.{texts_of, textless_place, AreTexts}}
 use Rattle.sefunjaro_handles.specs.declared.opened.Opened.TheVariants.{Zone}
-use Rattle.sefunjaro_c.specs.Lists.{OfPlace}
-use Rattle.sefunjaro_c.proofs.AskedLemmas.{of_zone}
-use Rattle.sefunjaro_c.proofs.ListLemmas.{no_place, one_place}
-use Rattle.sefunjaro_c.proofs.ShownLemmas.{seen_map}
+use Rattle.sefunjaro_c.{specs.Lists.{OfPlace}, proofs.AskedLemmas.{of_zone}, proofs.ListLemmas.{no_place, one_place}, proofs.ShownLemmas.{seen_map}}
 use Rattle.sefunjaro_c.proofs.lists.texts_at.Goals as goal
 
 pub returns-in-Ok-clause-answer : goal.returns-in-Ok-clause-answer

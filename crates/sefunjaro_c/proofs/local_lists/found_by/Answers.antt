@@ -1,5 +1,4 @@
-use Rattle.std.proofs.Common.{inl, inr, refl}
-use Rattle.std.specs.Prelude.{Ok, Err}
+use Rattle.std.{proofs.Common.{inl, inr, refl}, specs.Prelude.{Ok, Err}}
 use Rattle.sefunjaro.specs.Found.{AreToldOf}
 use Rattle.sefunjaro_c.proofs.ShownLemmas.{seen_map}
 use Rattle.sefunjaro_c.proofs.local_lists.found_by.Goals as goal

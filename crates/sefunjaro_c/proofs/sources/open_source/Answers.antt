@@ -1,7 +1,5 @@
 use Rattle.std.proofs.Common.{sym, subst}
-use Rattle.sefunjaro_c.specs.Faults.{source_due, IsRefused}
-use Rattle.sefunjaro_c.specs.Opened.{IsSourceOf}
-use Rattle.sefunjaro_c.proofs.FaultLemmas.{held_source, none_due, source_refused}
+use Rattle.sefunjaro_c.{specs.Faults.{source_due, IsRefused}, specs.Opened.{IsSourceOf}, proofs.FaultLemmas.{held_source, none_due, source_refused}}
 use Rattle.sefunjaro_c.proofs.sources.open_source.Goals as goal
 
 pub returns-in-Ok-source-clause-ok : goal.returns-in-Ok-source-clause-ok

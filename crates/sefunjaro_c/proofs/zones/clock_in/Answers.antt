@@ -1,9 +1,6 @@
-use Rattle.std.proofs.Common.{◌∙◌, to_z-of_z, FitsSigned, w32, rules, refl, ap}
-use Rattle.std.specs.Prelude.{Some, None}
-use Rattle.civil_base.specs.DateTimes.{instant}
-use Rattle.civil_base.specs.Layout.{day_part, time_part}
-use Rattle.sefunjaro.specs.Answered.{IsShown}
-use Rattle.sefunjaro.specs.Clocks.{clock_at}
+use Rattle.std.{proofs.Common.{◌∙◌, to_z-of_z, FitsSigned, w32, rules, refl, ap}, specs.Prelude.{Some, None}}
+use Rattle.civil_base.specs.{DateTimes.{instant}, Layout.{day_part, time_part}}
+use Rattle.sefunjaro.specs.{Answered.{IsShown}, Clocks.{clock_at}}
 use Rattle.sefunjaro_c.proofs.ShownLemmas.{seen_map, where_none, where_shown}
 use Rattle.sefunjaro_c.proofs.zones.clock_in.Goals as goal
 

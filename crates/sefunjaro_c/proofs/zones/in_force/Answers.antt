@@ -1,13 +1,8 @@
-use Rattle.std.proofs.Common.{◌≡◌, ◌∙◌, to_z-of_z, true, ap, subst}
-use Rattle.std.specs.Arc.{arc_value}
+use Rattle.std.{proofs.Common.{◌≡◌, ◌∙◌, to_z-of_z, true, ap, subst}, specs.Arc.{arc_value}}
 use Rattle.civil_base.specs.DateTimes.{instant}
-use Rattle.sefunjaro.specs.Answered.{IsInForce}
-use Rattle.sefunjaro.specs.Any.{Seen}
+use Rattle.sefunjaro.specs.{Answered.{IsInForce}, Any.{Seen}}
 use Rattle.sefunjaro_handles.specs.declared.opened.Opened.TheVariants.{Zone}
-use Rattle.sefunjaro_c.specs.Answers.{Where}
-use Rattle.sefunjaro_c.specs.Times.{is_instant, nanos_at}
-use Rattle.sefunjaro_c.proofs.AskedLemmas.{of_zone, where_true}
-use Rattle.sefunjaro_c.proofs.ShownLemmas.{seen_map}
+use Rattle.sefunjaro_c.{specs.Answers.{Where}, specs.Times.{is_instant, nanos_at}, proofs.AskedLemmas.{of_zone, where_true}, proofs.ShownLemmas.{seen_map}}
 use Rattle.sefunjaro_c.proofs.zones.in_force.Goals as goal
 
 pub returns-in-Some-clause-answer : goal.returns-in-Some-clause-answer

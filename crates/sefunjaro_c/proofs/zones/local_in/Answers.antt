@@ -1,6 +1,4 @@
-use Rattle.std.proofs.Common.{◌≡◌, ℕ, List, true, false, cond, sym, ap, ◌∙◌}
-use Rattle.std.specs.Prelude.{None}
-use Rattle.std.specs.Str.{is_utf8}
+use Rattle.std.{proofs.Common.{◌≡◌, ℕ, List, true, false, cond, sym, ap, ◌∙◌}, specs.Prelude.{None}, specs.Str.{is_utf8}}
 use Rattle.civil_base.specs.LocalTimes.{local_time_in}
 use Rattle.sefunjaro_c.specs.Read.{local_in}
 use Rattle.sefunjaro_c.proofs.zones.local_in.Goals as goal

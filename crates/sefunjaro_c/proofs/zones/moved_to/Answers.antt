@@ -1,8 +1,5 @@
 use Rattle.std.proofs.Common.{◌∙◌, pos, ◌+ℤ◌, ◌*ℤ◌}
-use Rattle.civil_base.specs.Clock.{nanos_per_day}
-use Rattle.civil_base.specs.DateTimes.{instant, local_of}
-use Rattle.civil_base.specs.Instants.{instant_at}
-use Rattle.civil_base.specs.PartLaws.{parts-joined}
+use Rattle.civil_base.specs.{Clock.{nanos_per_day}, DateTimes.{instant, local_of}, Instants.{instant_at}, PartLaws.{parts-joined}}
 use Rattle.sefunjaro_c.proofs.zones.moved_to.Goals as goal
 
 pub returns : goal.returns

@@ -1,12 +1,7 @@
 use mir.Syntax.{w128}
-use Rattle.std.proofs.Common.{◌≡◌, pos, ◌+ℤ◌, ◌*ℤ◌, to_z-of_z, FitsSigned, w64, ap, ◌∙◌, arith, rules}
-use Rattle.std.specs.Prelude.{unsigned_abs}
-use Rattle.std.specs.Int.{int_rem_euclid}
-use Rattle.std.proofs.lemmas.Int.{ints}
-use Rattle.civil_base.specs.DateTimes.{instant}
-use Rattle.civil_base.specs.Instants.{seconds_of}
-use Rattle.sefunjaro_c.specs.Times.{nanos_at}
-use Rattle.sefunjaro_c.proofs.TextLemmas.{in_parts, size_is}
+use Rattle.std.{proofs.Common.{◌≡◌, pos, ◌+ℤ◌, ◌*ℤ◌, to_z-of_z, FitsSigned, w64, ap, ◌∙◌, arith, rules}, specs.Prelude.{unsigned_abs}, specs.Int.{int_rem_euclid}, proofs.lemmas.Int.{ints}}
+use Rattle.civil_base.specs.{DateTimes.{instant}, Instants.{seconds_of}}
+use Rattle.sefunjaro_c.{specs.Times.{nanos_at}, proofs.TextLemmas.{in_parts, size_is}}
 use Rattle.sefunjaro_c.proofs.zones.parts_of.Goals as goal
 
 pub returns-clause-instant : goal.returns-clause-instant

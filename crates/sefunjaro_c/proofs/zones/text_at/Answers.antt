@@ -1,12 +1,8 @@
-use Rattle.std.proofs.Common.{◌≡◌, ◌∙◌, to_z-of_z, ℤ, true, ap, subst}
-use Rattle.std.specs.Arc.{arc_value}
+use Rattle.std.{proofs.Common.{◌≡◌, ◌∙◌, to_z-of_z, ℤ, true, ap, subst}, specs.Arc.{arc_value}}
 use Rattle.civil_base.specs.DateTimes.{instant}
-use Rattle.sefunjaro.specs.Any.{Seen}
-use Rattle.sefunjaro.specs.declared.zone.AnyZone.{AnyZone}
+use Rattle.sefunjaro.specs.{Any.{Seen}, declared.zone.AnyZone.{AnyZone}}
 use Rattle.sefunjaro_handles.specs.declared.opened.Opened.TheVariants.{Zone}
-use Rattle.sefunjaro_c.specs.Answers.{is_shown, IsTextIn, Where, Within}
-use Rattle.sefunjaro_c.specs.Times.{is_instant, nanos_at}
-use Rattle.sefunjaro_c.proofs.AskedLemmas.{of_zone, within_true}
+use Rattle.sefunjaro_c.{specs.Answers.{is_shown, IsTextIn, Where, Within}, specs.Times.{is_instant, nanos_at}, proofs.AskedLemmas.{of_zone, within_true}}
 use Rattle.sefunjaro_c.proofs.zones.text_at.Goals as goal
 
 pub returns-in-Some-clause-answer : goal.returns-in-Some-clause-answer

@@ -1,9 +1,6 @@
-use Rattle.std.proofs.Common.{◌∙◌, refl, length}
-use Rattle.std.specs.Prelude.{Some, None}
-use Rattle.civil_base.specs.DateTimes.{instant}
-use Rattle.civil_base.specs.Layout.{zoned_text}
-use Rattle.sefunjaro.specs.Answered.{IsShown}
-use Rattle.sefunjaro.specs.Rooms.{filled}
+use Rattle.std.{proofs.Common.{◌∙◌, refl, length}, specs.Prelude.{Some, None}}
+use Rattle.civil_base.specs.{DateTimes.{instant}, Layout.{zoned_text}}
+use Rattle.sefunjaro.specs.{Answered.{IsShown}, Rooms.{filled}}
 use Rattle.sefunjaro_c.proofs.ShownLemmas.{seen_map, where_none, where_shown}
 use Rattle.sefunjaro_c.proofs.zones.text_in.Goals as goal
 

@@ -1,7 +1,5 @@
-use Rattle.std.proofs.Common.{subst}
-use Rattle.std.specs.Prelude.{MatchOption}
-use Rattle.sefunjaro_c.specs.Read.{IsInstantOf, IsNoZonedText}
-use Rattle.sefunjaro_c.proofs.TextLemmas.{no_text}
+use Rattle.std.{proofs.Common.{subst}, specs.Prelude.{MatchOption}}
+use Rattle.sefunjaro_c.{specs.Read.{IsInstantOf, IsNoZonedText}, proofs.TextLemmas.{no_text}}
 use Rattle.sefunjaro_c.proofs.zones.zoned_in.Goals as goal
 
 pub returns-in-Some : goal.returns-in-Some

@@ -1,6 +1,5 @@
 use Rattle.std.proofs.Common.{sym, subst}
-use Rattle.civil_base.specs.DateTimes.{offset_of}
-use Rattle.civil_base.specs.ReadAs.{IsReadAs}
+use Rattle.civil_base.specs.{DateTimes.{offset_of}, ReadAs.{IsReadAs}}
 use Rattle.sefunjaro_c.specs.Times.{nanos_at}
 use Rattle.sefunjaro_c.proofs.zones.zoned_of.Goals as goal
 

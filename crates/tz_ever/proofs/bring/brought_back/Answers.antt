@@ -1,7 +1,6 @@
 use Rattle.std.proofs.Common.{ap, sym, ◌∙◌, int_lt, not, subst, ◌≤ℤ◌}
 use Rattle.civil_base.specs.DateTimes.{local_of}
-use Rattle.tz_ever.specs.Seam.{brought_back, next_seam, next_seam_day}
-use Rattle.tz_ever.proofs.SeamLemmas.{is_early, is_past}
+use Rattle.tz_ever.{specs.Seam.{brought_back, next_seam, next_seam_day}, proofs.SeamLemmas.{is_early, is_past}}
 use Rattle.tz_ever.proofs.bring.brought_back.Goals as goal
 
 pub in_cycle-requires : goal.in_cycle-requires

@@ -1,9 +1,6 @@
 use Rattle.std.proofs.Common.{pos, ◌+ℤ◌, ◌*ℤ◌, ◌≤ℤ◌, ap, sym, ◌∙◌, subst}
-use Rattle.civil_base.specs.Clock.{nanos_per_day}
-use Rattle.civil_base.specs.Layout.{day_part, time_part}
-use Rattle.civil_base.specs.PartLaws.{parts-joined, time_part-inside}
-use Rattle.tz_ever.specs.Seam.{brought_back, seam_day}
-use Rattle.tz_ever.proofs.SeamLemmas.{at_time, day_begun}
+use Rattle.civil_base.specs.{Clock.{nanos_per_day}, Layout.{day_part, time_part}, PartLaws.{parts-joined, time_part-inside}}
+use Rattle.tz_ever.{specs.Seam.{brought_back, seam_day}, proofs.SeamLemmas.{at_time, day_begun}}
 use Rattle.tz_ever.proofs.bring.in_cycle.Goals as goal
 
 pub date_in_cycle-requires-clause-begun : goal.date_in_cycle-requires-clause-begun

@@ -1,8 +1,5 @@
 use Rattle.std.proofs.Common.{pos, ◌+ℤ◌, ◌*ℤ◌, ap, ◌∙◌}
-use Rattle.civil_base.specs.Clock.{nanos_per_day}
-use Rattle.civil_base.specs.DateTimes.{local_of}
-use Rattle.civil_base.specs.Layout.{day_part}
-use Rattle.civil_base.specs.PartLaws.{parts-joined}
+use Rattle.civil_base.specs.{Clock.{nanos_per_day}, DateTimes.{local_of}, Layout.{day_part}, PartLaws.{parts-joined}}
 use Rattle.tz_ever.proofs.bring.local_of.Goals as goal
 
 pub returns : goal.returns

@@ -1,7 +1,5 @@
 use Rattle.std.proofs.Common.{sym, subst}
-use Rattle.tz_ever.specs.Opens.{IsEverFault}
-use Rattle.tz_ever.specs.declared.open.EverFault.{EverFault}
-use Rattle.tz_ever.proofs.OpenLemmas.{found_for_ever, later_due, later_is}
+use Rattle.tz_ever.{specs.Opens.{IsEverFault}, specs.declared.open.EverFault.{EverFault}, proofs.OpenLemmas.{found_for_ever, later_due, later_is}}
 use Rattle.tz_ever.proofs.open.later_set.Goals as goal
 
 pub later_fault-requires : goal.later_fault-requires

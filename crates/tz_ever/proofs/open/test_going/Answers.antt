@@ -1,5 +1,4 @@
-use Rattle.std.proofs.Common.{Bool, Option, Some, Ok, ap, ◌∙◌, subst}
-use Rattle.std.specs.FinMap.{get}
+use Rattle.std.{proofs.Common.{Bool, Option, Some, Ok, ap, ◌∙◌, subst}, specs.FinMap.{get}}
 use Rattle.zone_table.specs.Resolved.{resolved_in}
 use Rattle.zone_spans.specs.GoesOn.{TellsGoing}
 use Rattle.tz_ever.proofs.OpenLemmas.{ending_of, going_of}

@@ -1,8 +1,5 @@
-use Rattle.std.proofs.Common.{◌++◌, ◌∷◌, [], w64, SFits, rules, sym, ap, ◌∙◌, subst}
-use Rattle.std.proofs.lemmas.Int.{to_z-of_z}
-use Rattle.tz_lookup.specs.Compact.{StandFor}
-use Rattle.tz_lookup.specs.Kinds.{with_kind}
-use Rattle.tz_lookup.proofs.BuildLemmas.{one_more}
+use Rattle.std.proofs.{Common.{◌++◌, ◌∷◌, [], w64, SFits, rules, sym, ap, ◌∙◌, subst}, lemmas.Int.{to_z-of_z}}
+use Rattle.tz_lookup.{specs.Compact.{StandFor}, specs.Kinds.{with_kind}, proofs.BuildLemmas.{one_more}}
 use Rattle.tz_lookup.proofs.compact_set.add_entry.Goals as goal
 
 pub returns : goal.returns

@@ -1,6 +1,5 @@
 use Rattle.tz_zone.specs.Sets.{shifts_of}
-use Rattle.tz_lookup.specs.YearCounts.{AreBefore}
-use Rattle.tz_lookup.specs.Years.{year_second}
+use Rattle.tz_lookup.specs.{YearCounts.{AreBefore}, Years.{year_second}}
 use Rattle.tz_lookup.proofs.compact_set.entries_before.Given as goal
 
 -- the entries so far lie before the year

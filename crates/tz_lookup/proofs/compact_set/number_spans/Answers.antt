@@ -1,9 +1,6 @@
-use Rattle.std.proofs.Common.{◌≡◌, ◌+◌, ◌++◌, ◌∷◌, [], take, sym, ap, ◌∙◌, subst, arith}
-use Rattle.std.proofs.lemmas.List.{take_more, take_all}
+use Rattle.std.proofs.{Common.{◌≡◌, ◌+◌, ◌++◌, ◌∷◌, [], take, sym, ap, ◌∙◌, subst, arith}, lemmas.List.{take_more, take_all}}
 use Rattle.zone_spans.specs.Entries.{Entry}
-use Rattle.tz_lookup.specs.Compact.{StandFor}
-use Rattle.tz_lookup.specs.Kinds.{with_kind}
-use Rattle.tz_lookup.proofs.BuildLemmas.{first_stands}
+use Rattle.tz_lookup.{specs.Compact.{StandFor}, specs.Kinds.{with_kind}, proofs.BuildLemmas.{first_stands}}
 use Rattle.tz_lookup.proofs.compact_set.number_spans.Goals as goal
 
 pub loop-entry-init : goal.loop-entry-init

@@ -1,9 +1,6 @@
-use Rattle.std.proofs.Common.{w32, w64, SFits, to_z, of_z, ◌≡◌, ◌<ℤ◌, ◌*ℤ◌, ◌+ℤ◌, rules, sym, ap, ◌∙◌, subst, neg_ℤ, pos, ◌≤ℤ◌, arith}
-use Rattle.std.proofs.lemmas.Int.{to_z-of_z, ints}
-use Rattle.basics.specs.DateLaws.{year_of-is}
-use Rattle.basics.specs.Dates.{year_of}
-use Rattle.tz_lookup.specs.Years.{IsWithinYear}
-use Rattle.tz_lookup.proofs.YearLemmas.{within_year}
+use Rattle.std.proofs.{Common.{w32, w64, SFits, to_z, of_z, ◌≡◌, ◌<ℤ◌, ◌*ℤ◌, ◌+ℤ◌, rules, sym, ap, ◌∙◌, subst, neg_ℤ, pos, ◌≤ℤ◌, arith}, lemmas.Int.{to_z-of_z, ints}}
+use Rattle.basics.specs.{DateLaws.{year_of-is}, Dates.{year_of}}
+use Rattle.tz_lookup.{specs.Years.{IsWithinYear}, proofs.YearLemmas.{within_year}}
 use Rattle.tz_lookup.proofs.compact_set.utc_year.Goals as goal
 
 pub returns : goal.returns

@@ -1,5 +1,4 @@
-use Rattle.std.proofs.Common.{w32, w64, SFits, rules, ap, ◌∙◌, pos, ◌*ℤ◌}
-use Rattle.std.proofs.lemmas.Int.{to_z-of_z}
+use Rattle.std.proofs.{Common.{w32, w64, SFits, rules, ap, ◌∙◌, pos, ◌*ℤ◌}, lemmas.Int.{to_z-of_z}}
 use Rattle.basics.specs.Days.{day}
 use Rattle.tz_lookup.specs.Years.{year_second}
 use Rattle.tz_lookup.proofs.compact_set.year_second.Goals as goal

@@ -1,8 +1,6 @@
-use Rattle.std.proofs.Common.{w32, w64, SFits, rules, ◌-ℤ◌, ◌+ℤ◌, ap, ◌∙◌, subst, ◌<ℤ◌, ◌≤ℤ◌, pos, negsuc}
-use Rattle.std.proofs.lemmas.Int.{to_z-of_z}
+use Rattle.std.proofs.{Common.{w32, w64, SFits, rules, ◌-ℤ◌, ◌+ℤ◌, ap, ◌∙◌, subst, ◌<ℤ◌, ◌≤ℤ◌, pos, negsuc}, lemmas.Int.{to_z-of_z}}
 use Rattle.basics.specs.ComparisonLaws.{lt_from_pass, le_from_pass}
-use Rattle.tz_lookup.specs.Years.{IsWithinYear}
-use Rattle.tz_lookup.proofs.YearLemmas.{before_all, after_all, within_begun}
+use Rattle.tz_lookup.{specs.Years.{IsWithinYear}, proofs.YearLemmas.{before_all, after_all, within_begun}}
 use Rattle.tz_lookup.proofs.compact_set.years_begun.Goals as goal
 
 pub returns-then-second-lt-RULES_BEGIN : goal.returns-then-second-lt-RULES_BEGIN

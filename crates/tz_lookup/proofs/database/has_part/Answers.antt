@@ -1,5 +1,4 @@
-use Rattle.std.specs.Cmp.{both_ways}
-use Rattle.std.proofs.lemmas.Str.Pattern.{contains_text}
+use Rattle.std.{specs.Cmp.{both_ways}, proofs.lemmas.Str.Pattern.{contains_text}}
 use Rattle.tz_lookup.proofs.PartLaws.{part_found, part_of}
 use Rattle.tz_lookup.proofs.database.has_part.Goals as goal
 

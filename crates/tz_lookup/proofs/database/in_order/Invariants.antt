@@ -1,7 +1,5 @@
-use Rattle.std.proofs.Common.{◌≡◌, take, map}
-use Rattle.std.specs.Prelude.{filter, reverse}
-use Rattle.basics.specs.InOrder.{in_order}
-use Rattle.basics.specs.Keyed.{text_cmp}
+use Rattle.std.{proofs.Common.{◌≡◌, take, map}, specs.Prelude.{filter, reverse}}
+use Rattle.basics.specs.{InOrder.{in_order}, Keyed.{text_cmp}}
 use Rattle.tz_lookup.specs.Databases.{name_shown, resolves}
 use Rattle.tz_lookup.proofs.database.in_order.Given as goal
 

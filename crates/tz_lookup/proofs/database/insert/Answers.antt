@@ -1,6 +1,5 @@
 use Rattle.std.proofs.Common.{ap, ◌∙◌, map}
-use Rattle.tz_lookup.specs.Databases.{name_shown}
-use Rattle.tz_lookup.proofs.DatabaseLemmas.{insert_shown}
+use Rattle.tz_lookup.{specs.Databases.{name_shown}, proofs.DatabaseLemmas.{insert_shown}}
 use Rattle.tz_lookup.proofs.database.insert.Goals as goal
 
 pub returns : goal.returns

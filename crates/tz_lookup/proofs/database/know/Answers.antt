@@ -1,7 +1,6 @@
 use Rattle.std.proofs.Common.{ap, ◌∙◌, subst}
 use Rattle.tz_zone.specs.Compiles.{compiled_in, IsZoneFault}
-use Rattle.tz_lookup.specs.Databases.{found_as}
-use Rattle.tz_lookup.proofs.DatabaseLemmas.{found_is, bad_schedule, bad_offset}
+use Rattle.tz_lookup.{specs.Databases.{found_as}, proofs.DatabaseLemmas.{found_is, bad_schedule, bad_offset}}
 use Rattle.tz_lookup.proofs.database.know.Goals as goal
 
 pub returns-in-Ok-clause-ok : goal.returns-in-Ok-clause-ok

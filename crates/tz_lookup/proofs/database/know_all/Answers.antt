@@ -1,10 +1,5 @@
-use Rattle.std.proofs.Common.{◌++◌, ◌∷◌, [], map, sym, ap, ◌∙◌, append_assoc}
-use Rattle.std.specs.List.{list_all}
-use Rattle.std.proofs.lemmas.Bool.{and_parts}
-use Rattle.std.proofs.lemmas.List.{map-append}
-use Rattle.tz_lookup.specs.Databases.{found_as, found_in, first_refused, name_shown, resolves, zone_refusal}
-use Rattle.tz_lookup.specs.declared.database.Known.{Known}
-use Rattle.tz_lookup.proofs.DatabaseLemmas.{no_refusal, refused_later}
+use Rattle.std.{proofs.Common.{◌++◌, ◌∷◌, [], map, sym, ap, ◌∙◌, append_assoc}, specs.List.{list_all}, proofs.lemmas.Bool.{and_parts}, proofs.lemmas.List.{map-append}}
+use Rattle.tz_lookup.{specs.Databases.{found_as, found_in, first_refused, name_shown, resolves, zone_refusal}, specs.declared.database.Known.{Known}, proofs.DatabaseLemmas.{no_refusal, refused_later}}
 use Rattle.tz_lookup.proofs.database.know_all.Goals as goal
 
 pub loop-name-preserved : goal.loop-name-preserved

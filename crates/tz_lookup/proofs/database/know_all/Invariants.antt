@@ -1,5 +1,4 @@
-use Rattle.std.proofs.Common.{◌≡◌, ◌++◌, true, map}
-use Rattle.std.specs.List.{list_all}
+use Rattle.std.{proofs.Common.{◌≡◌, ◌++◌, true, map}, specs.List.{list_all}}
 use Rattle.tz_lookup.specs.Databases.{found_as, found_in, first_refused, name_shown, resolves, zone_refusal}
 use Rattle.tz_lookup.proofs.database.know_all.Given as goal
 

@@ -1,11 +1,6 @@
-use Rattle.std.proofs.Common.{◌≡◌, ◌++◌, map, ap, ◌∙◌}
-use Rattle.std.specs.FinMap.{keys}
-use Rattle.std.specs.Prelude.{filter, reverse}
-use Rattle.std.proofs.lemmas.List.{map-append}
-use Rattle.basics.specs.InOrder.{in_order}
-use Rattle.basics.specs.Keyed.{text_cmp}
-use Rattle.tz_lookup.specs.Databases.{names_of, name_shown, resolves}
-use Rattle.tz_lookup.proofs.DatabaseLemmas.{in_any_order}
+use Rattle.std.{proofs.Common.{◌≡◌, ◌++◌, map, ap, ◌∙◌}, specs.FinMap.{keys}, specs.Prelude.{filter, reverse}, proofs.lemmas.List.{map-append}}
+use Rattle.basics.specs.{InOrder.{in_order}, Keyed.{text_cmp}}
+use Rattle.tz_lookup.{specs.Databases.{names_of, name_shown, resolves}, proofs.DatabaseLemmas.{in_any_order}}
 use Rattle.tz_lookup.proofs.database.names_in_order.Goals as goal
 
 pub returns : goal.returns

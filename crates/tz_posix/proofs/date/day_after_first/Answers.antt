@@ -1,6 +1,5 @@
 use Rattle.std.proofs.Common.{arith, to_z-of_z, ◌≡◌, ◌+ℤ◌, pos, w32, to_z, of_z}
-use Rattle.basics.specs.Days.{day}
-use Rattle.basics.specs.SignedLaws.{signed_casts}
+use Rattle.basics.specs.{Days.{day}, SignedLaws.{signed_casts}}
 use Rattle.tz_posix.specs.DayLaws.{counted_day-inside}
 use Rattle.tz_posix.proofs.date.day_after_first.Goals as goal
 

@@ -1,9 +1,6 @@
-use Rattle.std.proofs.Common.{◌≡◌, ◌≤◌, ◌≤ℤ◌, ℕ, ℤ, neg_ℤ, Bool, true, false, arith, ap, ◌∙◌, cond, nat_le, ◌&&◌, ◌-◌, pos, ◌+ℤ◌, w32, to_z, of_z, to_z-of_z}
-use Rattle.std.proofs.lemmas.Bool.{and_parts, leb-true}
-use Rattle.basics.specs.Days.{day, is_leap}
-use Rattle.basics.specs.SignedLaws.{signed_casts}
-use Rattle.tz_posix.specs.Days.{julian_day}
-use Rattle.tz_posix.specs.DayLaws.{julian_day-is, julian_day-inside}
+use Rattle.std.proofs.{Common.{◌≡◌, ◌≤◌, ◌≤ℤ◌, ℕ, ℤ, neg_ℤ, Bool, true, false, arith, ap, ◌∙◌, cond, nat_le, ◌&&◌, ◌-◌, pos, ◌+ℤ◌, w32, to_z, of_z, to_z-of_z}, lemmas.Bool.{and_parts, leb-true}}
+use Rattle.basics.specs.{Days.{day, is_leap}, SignedLaws.{signed_casts}}
+use Rattle.tz_posix.specs.{Days.{julian_day}, DayLaws.{julian_day-is, julian_day-inside}}
 use Rattle.tz_posix.proofs.date.julian_day.Goals as goal
 
 first_day : (c : goal.After-from) → c.day_number.result ≡ day c.args.year 1 1

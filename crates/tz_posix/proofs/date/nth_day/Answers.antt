@@ -1,9 +1,7 @@
 use Rattle.std.proofs.Common.{arith, to_z-of_z, ap, sym, ◌≡◌, ◌∙◌, w32, to_z, of_z}
-use Rattle.basics.specs.Days.{day}
-use Rattle.basics.specs.MonthLaws.{days_in_month-bounds}
+use Rattle.basics.specs.{Days.{day}, MonthLaws.{days_in_month-bounds}}
 use Rattle.civil_base.specs.DayRangeLaws.{date-inside}
-use Rattle.tz_posix.specs.WeekdayLaws.{IsFound, found}
-use Rattle.tz_posix.proofs.DateLemmas.{value_is}
+use Rattle.tz_posix.{specs.WeekdayLaws.{IsFound, found}, proofs.DateLemmas.{value_is}}
 use Rattle.tz_posix.proofs.date.nth_day.Goals as goal
 
 pub day_number-requires-clause-last_day : goal.day_number-requires-clause-last_day

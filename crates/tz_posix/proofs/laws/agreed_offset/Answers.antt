@@ -1,12 +1,8 @@
 use Rattle.std.proofs.Common.{◌∙◌, sym}
 use Rattle.civil_base.specs.DateTimes.{instant}
-use Rattle.tz_lookup.specs.Sets.{schedule_of as schedule_in}
-use Rattle.tz_lookup.specs.Zones.{set_of}
+use Rattle.tz_lookup.specs.{Sets.{schedule_of as schedule_in}, Zones.{set_of}}
 use Rattle.zone_spans.specs.Schedules.{total_at}
-use Rattle.tz_posix.specs.Offsets.{given_of}
-use Rattle.tz_posix.specs.PosixShown.{posix_of}
-use Rattle.tz_posix.proofs.CallLemmas.{gives_total, string_accepts, string_total, zone_total}
-use Rattle.tz_posix.proofs.OneTotalLemmas.{not_shared}
+use Rattle.tz_posix.{specs.Offsets.{given_of}, specs.PosixShown.{posix_of}, proofs.CallLemmas.{gives_total, string_accepts, string_total, zone_total}, proofs.OneTotalLemmas.{not_shared}}
 use Rattle.tz_posix.proofs.laws.agreed_offset.Goals as goal
 
 pub returns-in-Ok-clause-of_string : goal.returns-in-Ok-clause-of_string

@@ -1,6 +1,5 @@
 use Rattle.std.proofs.Common.{⊎_elim}
-use Rattle.tz_posix.proofs.NorthernLemmas.{northern_agrees, northern_compiled}
-use Rattle.tz_posix.proofs.SouthernLemmas.{southern_agrees, southern_compiled}
+use Rattle.tz_posix.proofs.{NorthernLemmas.{northern_agrees, northern_compiled}, SouthernLemmas.{southern_agrees, southern_compiled}}
 use Rattle.tz_posix.proofs.laws.two_yearly_rules_agree.Goals as goal
 
 pub returns : goal.returns

@@ -1,8 +1,5 @@
 use Rattle.std.proofs.Common.{to_z-of_z}
-use Rattle.tz_posix.specs.Offsets.{given_of}
-use Rattle.tz_posix.specs.NamedShown.{named_of}
-use Rattle.tz_posix.specs.Yearly.{time_shown}
-use Rattle.tz_posix.proofs.GivenLemmas.{given_by_rule}
+use Rattle.tz_posix.{specs.Offsets.{given_of}, specs.NamedShown.{named_of}, specs.Yearly.{time_shown}, proofs.GivenLemmas.{given_by_rule}}
 use Rattle.tz_posix.proofs.posix.ruled.Goals as goal
 
 pub returns-in-Ok-clause-value : goal.returns-in-Ok-clause-value

@@ -1,7 +1,5 @@
-use Rattle.std.proofs.Common.{arith, ◌≤ℤ◌, ◌<ℤ◌, ℤ, pos, neg_ℤ, sym, to_z-of_z}
-use Rattle.std.specs.Int.{int_div_euclid}
-use Rattle.basics.specs.ComparisonLaws.{le_from_pass, lt_from_pass}
-use Rattle.basics.specs.SignedLaws.{signed, floored}
+use Rattle.std.{proofs.Common.{arith, ◌≤ℤ◌, ◌<ℤ◌, ℤ, pos, neg_ℤ, sym, to_z-of_z}, specs.Int.{int_div_euclid}}
+use Rattle.basics.specs.{ComparisonLaws.{le_from_pass, lt_from_pass}, SignedLaws.{signed, floored}}
 use Rattle.civil_base.specs.Ranges.{first_day, last_day}
 use Rattle.tz_posix.proofs.YearLemmas.{year_of-later, year_of-earlier}
 use Rattle.tz_posix.proofs.rule.counted_year.Goals as goal

@@ -1,11 +1,7 @@
-use Rattle.std.proofs.Common.{refl, arith, ◌≡◌, ℤ, pos, neg_ℤ, ◌≤ℤ◌, ◌<ℤ◌, w32, w64, to_z, of_z, to_z-of_z}
-use Rattle.std.specs.Int.{int_div_euclid}
-use Rattle.basics.specs.Dates.{year_of}
-use Rattle.basics.specs.ComparisonLaws.{le_from_pass, le_from_fail, lt_from_pass, lt_from_fail}
-use Rattle.basics.specs.SignedLaws.{signed, signed_casts, floored}
+use Rattle.std.{proofs.Common.{refl, arith, ◌≡◌, ℤ, pos, neg_ℤ, ◌≤ℤ◌, ◌<ℤ◌, w32, w64, to_z, of_z, to_z-of_z}, specs.Int.{int_div_euclid}}
+use Rattle.basics.specs.{Dates.{year_of}, ComparisonLaws.{le_from_pass, le_from_fail, lt_from_pass, lt_from_fail}, SignedLaws.{signed, signed_casts, floored}}
 use Rattle.civil_base.specs.Ranges.{first_day, last_day, IsDay}
-use Rattle.tz_posix.proofs.YearLemmas.{is_year-inside, is_year-later, is_year-earlier}
-use Rattle.tz_posix.proofs.rule.year_of_second.Goals.{then-second-lt-FIRST_SECOND-via-then-second-lt-FIRST_SECOND, then-second-lt-FIRST_SECOND-via-else-second-lt-FIRST_SECOND+then-second-ge-END}
+use Rattle.tz_posix.proofs.{YearLemmas.{is_year-inside, is_year-later, is_year-earlier}, rule.year_of_second.Goals.{then-second-lt-FIRST_SECOND-via-then-second-lt-FIRST_SECOND, then-second-lt-FIRST_SECOND-via-else-second-lt-FIRST_SECOND+then-second-ge-END}}
 use Rattle.tz_posix.proofs.rule.year_of_second.Goals as goal
 
 -- the day of a second

@@ -1,7 +1,5 @@
-use Rattle.std.proofs.Common.{◌≡◌, drop}
-use Rattle.std.specs.List.{list_all}
-use Rattle.zone_tzif_core.specs.ZoneFiles.{zone_seen}
-use Rattle.zone_tzif_core.specs.Zones.{is_small}
+use Rattle.std.{proofs.Common.{◌≡◌, drop}, specs.List.{list_all}}
+use Rattle.zone_tzif_core.specs.{ZoneFiles.{zone_seen}, Zones.{is_small}}
 use Rattle.tz_tzif.proofs.accept.all_small.Given as goal
 
 abbrev pub invariant-loop-place : goal.invariant-loop-place

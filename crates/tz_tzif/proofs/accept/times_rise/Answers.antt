@@ -1,7 +1,5 @@
-use Rattle.std.proofs.Common.{◌∙◌, ap, sym, ℤ}
-use Rattle.std.proofs.lemmas.Simd.{map-map}
-use Rattle.zone_tzif_core.specs.ZoneFiles.{change_with, kinds_kept}
-use Rattle.zone_tzif_core.specs.Zones.{KindValue, go_up, rises}
+use Rattle.std.proofs.{Common.{◌∙◌, ap, sym, ℤ}, lemmas.Simd.{map-map}}
+use Rattle.zone_tzif_core.specs.{ZoneFiles.{change_with, kinds_kept}, Zones.{KindValue, go_up, rises}}
 use Rattle.tz_tzif.proofs.accept.times_rise.Goals as goal
 
 pub returns : goal.returns

@@ -1,6 +1,4 @@
-use Rattle.std.proofs.Common.{◌≡◌, ℤ, pos, ◌+ℤ◌, FitsSigned, w32, w64, to_z, of_z, to_z-of_z, rules, sym, ◌∙◌, arith}
-use Rattle.std.proofs.lemmas.Int.{ints}
-use Rattle.std.proofs.lemmas.Option.{none-some, same_Some}
+use Rattle.std.proofs.{Common.{◌≡◌, ℤ, pos, ◌+ℤ◌, FitsSigned, w32, w64, to_z, of_z, to_z-of_z, rules, sym, ◌∙◌, arith}, lemmas.Int.{ints}, lemmas.Option.{none-some, same_Some}}
 use Rattle.basics.specs.ComparisonLaws.{le_from_pass}
 use Rattle.tz_tzif.proofs.cells.cell_at.Goals as goal
 

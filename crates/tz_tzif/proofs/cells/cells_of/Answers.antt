@@ -1,12 +1,6 @@
-use Rattle.std.proofs.Common.{◌≡◌, ℕ, ◌<◌, List, [], ◌∷◌, ◌++◌, inl, inr, length, slice_index_or, ℤ, FitsSigned, w64, to_z-of_z, rules, sym, ap, ◌∙◌, subst, arith}
-use Rattle.std.proofs.Math.ListN.{get_or-append}
-use Rattle.std.proofs.Math.Seq.{get_or-append_seam}
-use Rattle.std.proofs.lemmas.Bool.{cases_lt}
+use Rattle.std.proofs.{Common.{◌≡◌, ℕ, ◌<◌, List, [], ◌∷◌, ◌++◌, inl, inr, length, slice_index_or, ℤ, FitsSigned, w64, to_z-of_z, rules, sym, ap, ◌∙◌, subst, arith}, Math.ListN.{get_or-append}, Math.Seq.{get_or-append_seam}, lemmas.Bool.{cases_lt}}
 use Rattle.std.proofs.lemmas.List.{length-append}
-use Rattle.tz_tzif.specs.Cells.{begin_of, AreCells, IsCell}
-use Rattle.tz_tzif.specs.InForce.{total_in}
-use Rattle.tz_tzif.specs.Zones.{value_of, says_of}
-use Rattle.tz_tzif.specs.declared.cells.Cell.{Cell}
+use Rattle.tz_tzif.specs.{Cells.{begin_of, AreCells, IsCell}, InForce.{total_in}, Zones.{value_of, says_of}, declared.cells.Cell.{Cell}}
 use Rattle.tz_tzif.proofs.cells.cells_of.Goals as goal
 
 one_more : (total : ℤ → ℤ) (cells : List Cell) (cell : Cell) → AreCells total cells → IsCell total (begin_of (length cells)) cell

@@ -1,7 +1,5 @@
 use Rattle.std.proofs.Common.{◌≡◌, length}
-use Rattle.tz_tzif.specs.Cells.{AreCells}
-use Rattle.tz_tzif.specs.InForce.{total_in}
-use Rattle.tz_tzif.specs.Zones.{value_of, says_of}
+use Rattle.tz_tzif.specs.{Cells.{AreCells}, InForce.{total_in}, Zones.{value_of, says_of}}
 use Rattle.tz_tzif.proofs.cells.cells_of.Given as goal
 
 -- there is a cell for each place so far

@@ -1,7 +1,5 @@
-use Rattle.std.proofs.Common.{◌≡◌, ◌+ℤ◌, pos, IfSome, FitsSigned, w64, to_z, of_z, to_z-of_z, rules, ap, ◌∙◌, subst, arith}
-use Rattle.std.proofs.lemmas.Int.{ints}
-use Rattle.tz_tzif.specs.Cells.{begin_of}
-use Rattle.tz_tzif.specs.Lasting.{IsTold}
+use Rattle.std.proofs.{Common.{◌≡◌, ◌+ℤ◌, pos, IfSome, FitsSigned, w64, to_z, of_z, to_z-of_z, rules, ap, ◌∙◌, subst, arith}, lemmas.Int.{ints}}
+use Rattle.tz_tzif.specs.{Cells.{begin_of}, Lasting.{IsTold}}
 use Rattle.tz_tzif.proofs.cells.told_among.Goals as goal
 
 pub returns-then-place-cells : goal.returns-then-place-cells

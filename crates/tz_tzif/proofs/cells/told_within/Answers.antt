@@ -1,5 +1,4 @@
-use Rattle.std.proofs.Common.{◌≡◌, ℤ, pos, ◌+ℤ◌, ◌≤ℤ◌, ◌<ℤ◌, FitsSigned, w32, w64, to_z, of_z, to_z-of_z, rules, sym, ◌∙◌, arith}
-use Rattle.std.proofs.lemmas.Int.{ints}
+use Rattle.std.proofs.{Common.{◌≡◌, ℤ, pos, ◌+ℤ◌, ◌≤ℤ◌, ◌<ℤ◌, FitsSigned, w32, w64, to_z, of_z, to_z-of_z, rules, sym, ◌∙◌, arith}, lemmas.Int.{ints}}
 use Rattle.basics.specs.ComparisonLaws.{lt_from_fail}
 use Rattle.tz_tzif.proofs.cells.told_within.Goals as goal
 

@@ -1,15 +1,9 @@
 -- The first offset that is read is the next.
-use Rattle.std.proofs.Common.{◌≡◌, ℕ, ◌≤◌, ◌<◌, ◌+◌, true, cond, List, ◌∷◌, length, drop, get_or, ℤ, pos, ◌-ℤ◌, refl, sym, ap, ◌∙◌, arith, to_z-of_z}
-use Rattle.std.proofs.lemmas.List.{drop_more}
+use Rattle.std.proofs.{Common.{◌≡◌, ℕ, ◌≤◌, ◌<◌, ◌+◌, true, cond, List, ◌∷◌, length, drop, get_or, ℤ, pos, ◌-ℤ◌, refl, sym, ap, ◌∙◌, arith, to_z-of_z}, lemmas.List.{drop_more}}
 use Rattle.basics.specs.ComparisonLaws.{eq_pass}
-use Rattle.tz_tzif.specs.declared.held.Held.{Held}
-use Rattle.zone_tzif_core.specs.Zones.{KindValue}
-use Rattle.tz_tzif.specs.Instants.{is_read, read_at}
-use Rattle.tz_tzif.specs.Next.{IsHeldFor, IsNext}
-use Rattle.tz_tzif.specs.InForce.{kind_in}
-use Rattle.tz_tzif.specs.Kept.{items_of}
-use Rattle.tz_tzif.specs.Zones.{value_of, says_of}
+use Rattle.tz_tzif.specs.{declared.held.Held.{Held}, Instants.{is_read, read_at}, Next.{IsHeldFor, IsNext}, InForce.{kind_in}, Kept.{items_of}, Zones.{value_of, says_of}}
 use Rattle.tz_tzif.proofs.instants.next_read.Goals as goal
+use Rattle.zone_tzif_core.specs.Zones.{KindValue}
 
 next_is : (kind : ℤ → KindValue) (local : ℤ) (os : List ℤ) (from place : ℕ) (held : Held) → place < 18446744073709551615 → from ≤ place
     → place < length os → IsHeldFor kind local (get_or os place (pos 0)) held

@@ -1,8 +1,5 @@
 use Rattle.std.proofs.Common.{◌≡◌, ◌≤◌, drop}
-use Rattle.tz_tzif.specs.InForce.{total_in}
-use Rattle.tz_tzif.specs.Instants.{read_at}
-use Rattle.tz_tzif.specs.Kept.{items_of}
-use Rattle.tz_tzif.specs.Zones.{value_of, says_of}
+use Rattle.tz_tzif.specs.{InForce.{total_in}, Instants.{read_at}, Kept.{items_of}, Zones.{value_of, says_of}}
 use Rattle.tz_tzif.proofs.instants.next_read.Given as goal
 
 -- none was passed over

@@ -1,13 +1,10 @@
 -- The totals of a zone beside those of its changes alone.
-use Rattle.std.proofs.Common.{◌≡◌, ℤ, pos, ◌*ℤ◌, int_le, Bool, true, false, cond, Some, None, filter, sym, ap, ◌∙◌, arith}
-use Rattle.std.proofs.lemmas.Int.{ints}
+use Rattle.std.proofs.{Common.{◌≡◌, ℤ, pos, ◌*ℤ◌, int_le, Bool, true, false, cond, Some, None, filter, sym, ap, ◌∙◌, arith}, lemmas.Int.{ints}}
 use Rattle.civil_base.specs.Instants.{seconds_of}
 use Rattle.tz_zone.specs.SecondLaws.{IsSecond, second_is}
-use Rattle.tz_tzif.specs.FooterForce.{FooterZone, held_at}
-use Rattle.zone_tzif_core.specs.Totals.{last_kind, file_total_at}
-use Rattle.zone_tzif_core.specs.Zones.{KindValue, ZoneValue}
-use Rattle.tz_tzif.specs.InForce.{are_over, changed_kind, kind_in, kind_at, told_total_at}
+use Rattle.tz_tzif.specs.{FooterForce.{FooterZone, held_at}, InForce.{are_over, changed_kind, kind_in, kind_at, told_total_at}}
 use Rattle.tz_tzif.proofs.laws.file_totals.Goals as goal
+use Rattle.zone_tzif_core.specs.{Totals.{last_kind, file_total_at}, Zones.{KindValue, ZoneValue}}
 
 test_same : (a t s : ℤ) → IsSecond t s → int_le (a *ℤ pos 1000000000) t ≡ int_le a s
 test_same a t s h = grind (arith, ints, h.low, h.high)

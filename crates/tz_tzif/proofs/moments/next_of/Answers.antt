@@ -1,5 +1,4 @@
-use Rattle.std.proofs.Common.{FitsSigned, w64, rules, to_z-of_z, arith}
-use Rattle.std.proofs.lemmas.Int.{ints}
+use Rattle.std.proofs.{Common.{FitsSigned, w64, rules, to_z-of_z, arith}, lemmas.Int.{ints}}
 use Rattle.tz_tzif.proofs.moments.next_of.Goals as goal
 
 pub returns-clause-end : goal.returns-clause-end

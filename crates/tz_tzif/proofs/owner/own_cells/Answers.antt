@@ -1,12 +1,7 @@
-use Rattle.std.proofs.Common.{◌≡◌, IfOk, Option, subst}
-use Rattle.tz_tzif.specs.Cells.{AreCells}
-use Rattle.tz_tzif.specs.FooterForce.{FooterZone}
-use Rattle.tz_tzif.specs.InForce.{total_in}
-use Rattle.tz_tzif.specs.OwnShown.{own_shown}
-use Rattle.tz_tzif.specs.Zones.{value_of}
-use Rattle.std.specs.Prelude.{option_map}
-use Rattle.zone_tzif_core.specs.Zones.{ZoneValue}
+use Rattle.std.{proofs.Common.{◌≡◌, IfOk, Option, subst}, specs.Prelude.{option_map}}
+use Rattle.tz_tzif.specs.{Cells.{AreCells}, FooterForce.{FooterZone}, InForce.{total_in}, OwnShown.{own_shown}, Zones.{value_of}}
 use Rattle.tz_tzif.proofs.owner.own_cells.Goals as goal
+use Rattle.zone_tzif_core.specs.Zones.{ZoneValue}
 
 pub returns-clause-cells : goal.returns-clause-cells
 returns-clause-cells c =

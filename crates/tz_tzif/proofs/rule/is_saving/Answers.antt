@@ -1,7 +1,6 @@
 use Rattle.std.proofs.Common.{◌≡◌, true, false, ℤ, FitsSigned, w32, to_z-of_z, rules, refl, sym, ap, ◌∙◌}
-use Rattle.tz_posix.specs.InForce.{moments_in, year_at}
+use Rattle.tz_posix.specs.{InForce.{moments_in, year_at}, Yearly.{time_shown}}
 use Rattle.tz_tzif.specs.FooterForce.{has_begun, is_footer_saving, is_saved, is_saved_by, is_saved_since, year_after, year_before}
-use Rattle.tz_posix.specs.Yearly.{time_shown}
 use Rattle.tz_tzif.proofs.rule.is_saving.Goals as goal
 
 by_after : (after here before earlier : ℤ × ℤ) (s : ℤ) → has_begun after s ≡ true → is_saved_by after here before earlier s ≡ is_saved after s

@@ -1,10 +1,7 @@
-use Rattle.std.proofs.Common.{ℤ, pos, ◌-ℤ◌, ◌*ℤ◌, FitsSigned, w32, w64, to_z, of_z, to_z-of_z, rules, ap, ◌∙◌, arith}
-use Rattle.std.proofs.lemmas.Int.{ints}
+use Rattle.std.proofs.{Common.{ℤ, pos, ◌-ℤ◌, ◌*ℤ◌, FitsSigned, w32, w64, to_z, of_z, to_z-of_z, rules, ap, ◌∙◌, arith}, lemmas.Int.{ints}}
 use Rattle.basics.specs.Days.{day}
-use Rattle.tz_posix.specs.InForce.{moments_in, year_at}
-use Rattle.tz_posix.specs.Yearly.{time_shown}
-use Rattle.tz_tzif.specs.FooterForce.{year_after, year_before}
-use Rattle.tz_tzif.proofs.ChangeLemmas.{AreApart, later_year, same_saving}
+use Rattle.tz_posix.specs.{InForce.{moments_in, year_at}, Yearly.{time_shown}}
+use Rattle.tz_tzif.{specs.FooterForce.{year_after, year_before}, proofs.ChangeLemmas.{AreApart, later_year, same_saving}}
 use Rattle.tz_tzif.proofs.rule.next_change.Goals as goal
 
 pub next_of-following-requires : goal.next_of-following-requires

@@ -1,15 +1,9 @@
 -- A search among changes whose times rise gives those that are at or before a second.
 use Rattle.std.proofs.Common.{◌≡◌, ℕ, zero, suc, ◌≤◌, ◌<◌, Bool, true, false, cond, List, [], ◌∷◌, length, map, take, get_or, slice_index_or, ℤ, pos, ◌≤ℤ◌, ◌<ℤ◌, int_lt, int_le, nat_eq, refl, sym, ap, ◌∙◌, subst, arith, rules, of_calls}
+use Rattle.std.proofs.lemmas.{Bool.{and_parts}, Bool.Decides.{nat_tests}, Int.{ints}, Simd.{map-map}, Fn.{always_returns_same}, List.{length-map}}
 use Rattle.std.specs.List.{filter, list_all}
-use Rattle.std.proofs.lemmas.Bool.{and_parts}
-use Rattle.std.proofs.lemmas.Bool.Decides.{nat_tests}
-use Rattle.std.proofs.lemmas.Int.{ints}
-use Rattle.std.proofs.lemmas.Simd.{map-map}
 use Rattle.basics.specs.ComparisonLaws.{le_itself}
-use Rattle.zone_tzif_core.specs.ZoneFiles.{change_with, changes_with, kinds_kept, unnumbered}
-use Rattle.zone_tzif_core.specs.Zones.{KindValue, go_up, rises}
-use Rattle.std.proofs.lemmas.Fn.{always_returns_same}
-use Rattle.std.proofs.lemmas.List.{length-map}
+use Rattle.zone_tzif_core.specs.{ZoneFiles.{change_with, changes_with, kinds_kept, unnumbered}, Zones.{KindValue, go_up, rises}}
 use Rattle.tz_tzif.specs.Steady.{IsSteady}
 use Rattle.tz_tzif.proofs.search.changes_until.Goals as goal
 

@@ -1,10 +1,6 @@
 -- The kind after so many changes.
-use Rattle.std.proofs.Common.{◌≡◌, ℕ, zero, suc, ◌-◌, ◌<◌, true, List, [], ◌∷◌, length, take, get_or, ℤ, refl, arith, ◌∙◌, pos, sym, ap, subst}
-use Rattle.std.specs.List.{list_all}
-use Rattle.std.proofs.lemmas.Bool.{and_parts}
-use Rattle.zone_tzif_core.specs.Totals.{last_kind}
-use Rattle.zone_tzif_core.specs.Zones.{KindValue, is_small}
-use Rattle.zone_tzif_core.specs.ZoneFiles.{unnumbered, zone_seen}
+use Rattle.std.{proofs.Common.{◌≡◌, ℕ, zero, suc, ◌-◌, ◌<◌, true, List, [], ◌∷◌, length, take, get_or, ℤ, refl, arith, ◌∙◌, pos, sym, ap, subst}, specs.List.{list_all}, proofs.lemmas.Bool.{and_parts}}
+use Rattle.zone_tzif_core.specs.{Totals.{last_kind}, Zones.{KindValue, is_small}, ZoneFiles.{unnumbered, zone_seen}}
 use Rattle.tz_tzif.proofs.search.held_after.Goals as goal
 
 last_of : (first : KindValue) (changes : List (ℤ × KindValue)) (n : ℕ) (d : ℤ × KindValue) → n < length changes

@@ -1,6 +1,5 @@
 use Rattle.std.proofs.Common.{sym, ◌∙◌}
-use Rattle.tz_zone.specs.Compiles.{compiled_in_over}
-use Rattle.tz_zone.proofs.CompileLemmas.{accepted_spans, far_spans}
+use Rattle.tz_zone.{specs.Compiles.{compiled_in_over}, proofs.CompileLemmas.{accepted_spans, far_spans}}
 use Rattle.tz_zone.proofs.compile.compile_zone_over.Goals as goal
 
 pub returns-then-has_offsets-clause-accepted : goal.returns-then-has_offsets-clause-accepted

@@ -1,13 +1,9 @@
-use Rattle.std.proofs.Common.{◌≡◌, ℕ, suc, ℤ, ◌+◌, ◌-◌, ◌<◌, length, [], ◌∷◌, w64, to_z, of_z, arith, sym, ◌∙◌, subst}
-use Rattle.std.specs.declared.cmp.Ordering.TheVariants.{Equal}
-use Rattle.tz_zone.proofs.SetLemmas.{count_same}
-use Rattle.std.proofs.lemmas.Int.{to_z-of_z}
-use Rattle.tz_zone.specs.Sets.{schedule_of, total_of_span, order_of}
-use Rattle.tz_zone.proofs.OrderLemmas.{two_lie, one_lies, if_false}
-use Rattle.zone_spans.specs.Schedules.{total_at}
-use Rattle.tz_zone.specs.InForce.{totals_at}
-use Rattle.tz_zone.proofs.lookups.beside.Goals as goal
+use Rattle.std.{proofs.Common.{◌≡◌, ℕ, suc, ℤ, ◌+◌, ◌-◌, ◌<◌, length, [], ◌∷◌, w64, to_z, of_z, arith, sym, ◌∙◌, subst}, specs.declared.cmp.Ordering.TheVariants.{Equal}, proofs.lemmas.Int.{to_z-of_z}}
+use Rattle.tz_zone.proofs.{SetLemmas.{count_same}, OrderLemmas.{two_lie, one_lies, if_false}}
 use Rattle.tz_zone.proofs.lookups.beside.Goals.{else-found-gt0-via-then-found-gt0+else-contains, else-found-gt0-via-else-found-gt0, else-found-entry_count-via-then-found-entry_count+else-contains-2, else-found-entry_count-via-else-found-entry_count}
+use Rattle.tz_zone.specs.{Sets.{schedule_of, total_of_span, order_of}, InForce.{totals_at}}
+use Rattle.tz_zone.proofs.lookups.beside.Goals as goal
+use Rattle.zone_spans.specs.Schedules.{total_at}
 
 pub returns-then-contains-clause-exact : goal.returns-then-contains-clause-exact
 returns-then-contains-clause-exact g c = λ x at.

@@ -1,14 +1,7 @@
-use Rattle.std.proofs.Common.{◌≡◌, ℕ, ℤ, ◌+◌, ◌-◌, ◌<◌, [], ◌∷◌, ◌++◌, length, take, w64, to_z, of_z, arith, sym, ap, ◌∙◌, subst}
-use Rattle.std.proofs.lemmas.Int.{to_z-of_z}
-use Rattle.std.specs.declared.cmp.Ordering.TheVariants.{Equal}
-use Rattle.tz_zone.specs.Sets.{schedule_of, order_of}
-use Rattle.tz_zone.specs.Scans.{spans_from, so_far}
-use Rattle.tz_zone.specs.declared.time_zone.OffsetResult.TheVariants.{Some, Ambiguous}
-use Rattle.tz_zone.proofs.GivenLemmas.{each_at}
-use Rattle.tz_zone.proofs.OrderLemmas.{if_false}
-use Rattle.tz_zone.proofs.ScanLemmas.{step_takes, step_skips, first_two}
+use Rattle.std.{proofs.Common.{◌≡◌, ℕ, ℤ, ◌+◌, ◌-◌, ◌<◌, [], ◌∷◌, ◌++◌, length, take, w64, to_z, of_z, arith, sym, ap, ◌∙◌, subst}, proofs.lemmas.Int.{to_z-of_z}, specs.declared.cmp.Ordering.TheVariants.{Equal}}
+use Rattle.tz_zone.specs.{Sets.{schedule_of, order_of}, Scans.{spans_from, so_far}, declared.time_zone.OffsetResult.TheVariants.{Some, Ambiguous}}
+use Rattle.tz_zone.proofs.{GivenLemmas.{each_at}, OrderLemmas.{if_false}, ScanLemmas.{step_takes, step_skips, first_two}, lookups.first_local_spans_at.Goals.{then-contains+in-None, else-contains}}
 use Rattle.tz_zone.proofs.lookups.first_local_spans_at.Goals as goal
-use Rattle.tz_zone.proofs.lookups.first_local_spans_at.Goals.{then-contains+in-None, else-contains}
 
 pub returns-in-Some-clause-exact : goal.returns-in-Some-clause-exact
 returns-in-Some-clause-exact g c =

@@ -1,8 +1,5 @@
-use Rattle.std.proofs.Common.{◌≡◌, ◌+◌, ◌-◌, ◌<◌, ◌++◌, length}
-use Rattle.std.specs.Option.{ForSome}
-use Rattle.std.specs.declared.cmp.Ordering.TheVariants.{Equal}
-use Rattle.tz_zone.specs.Sets.{schedule_of, order_of}
-use Rattle.tz_zone.specs.Scans.{spans_from, so_far}
+use Rattle.std.{proofs.Common.{◌≡◌, ◌+◌, ◌-◌, ◌<◌, ◌++◌, length}, specs.Option.{ForSome}, specs.declared.cmp.Ordering.TheVariants.{Equal}}
+use Rattle.tz_zone.specs.{Sets.{schedule_of, order_of}, Scans.{spans_from, so_far}}
 use Rattle.tz_zone.proofs.lookups.first_local_spans_at.Given as goal
 
 -- what was found and what is left to look at make the whole

@@ -1,9 +1,5 @@
-use Rattle.std.proofs.Common.{◌≡◌, ℕ, ◌<◌, ◌≤◌, Bool, w64, SFits, rules, int_le, ltb, length, ◌∙◌, arith}
-use Rattle.std.specs.Prelude.{◌&&◌}
-use Rattle.std.proofs.lemmas.Bool.Decides.{nat_tests}
-use Rattle.std.proofs.lemmas.Int.{to_z-of_z}
-use Rattle.tz_zone.specs.Sets.{shifts_of}
-use Rattle.tz_zone.proofs.SetLemmas.{count_same}
+use Rattle.std.{proofs.Common.{◌≡◌, ℕ, ◌<◌, ◌≤◌, Bool, w64, SFits, rules, int_le, ltb, length, ◌∙◌, arith}, specs.Prelude.{◌&&◌}, proofs.lemmas.Bool.Decides.{nat_tests}, proofs.lemmas.Int.{to_z-of_z}}
+use Rattle.tz_zone.{specs.Sets.{shifts_of}, proofs.SetLemmas.{count_same}}
 use Rattle.tz_zone.proofs.lookups.has_ended.Goals as goal
 
 inside : (i n : ℕ) (b : Bool) → i < n → b ≡ (ltb i n && b)

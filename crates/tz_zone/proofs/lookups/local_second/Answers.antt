@@ -1,5 +1,4 @@
-use Rattle.std.proofs.Common.{w32, w64, SFits, rules, ◌∙◌}
-use Rattle.std.proofs.lemmas.Int.{to_z-of_z}
+use Rattle.std.proofs.{Common.{w32, w64, SFits, rules, ◌∙◌}, lemmas.Int.{to_z-of_z}}
 use Rattle.tz_zone.proofs.SetLemmas.{span_offset, time_bound, added_fits, sum_is}
 use Rattle.tz_zone.proofs.lookups.local_second.Goals as goal
 

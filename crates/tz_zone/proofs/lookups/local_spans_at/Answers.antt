@@ -1,7 +1,5 @@
-use Rattle.std.proofs.Common.{◌+◌, length, w64, to_z, of_z, arith, refl, sym, ◌∙◌, subst}
-use Rattle.std.proofs.lemmas.Int.{to_z-of_z}
-use Rattle.tz_zone.specs.Sets.{schedule_of, shifts_of, IsNear}
-use Rattle.tz_zone.proofs.OrderLemmas.{goes_up, none_lies, none_near}
+use Rattle.std.proofs.{Common.{◌+◌, length, w64, to_z, of_z, arith, refl, sym, ◌∙◌, subst}, lemmas.Int.{to_z-of_z}}
+use Rattle.tz_zone.{specs.Sets.{schedule_of, shifts_of, IsNear}, proofs.OrderLemmas.{goes_up, none_lies, none_near}}
 use Rattle.tz_zone.proofs.lookups.local_spans_at.Goals as goal
 
 pub binary_search-requires-clause-sorted : goal.binary_search-requires-clause-sorted

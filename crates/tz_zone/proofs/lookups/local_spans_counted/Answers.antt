@@ -1,9 +1,6 @@
-use Rattle.std.proofs.Common.{w64, SFits, rules, sym, ◌∙◌, refl, subst}
-use Rattle.std.proofs.lemmas.Int.{to_z-of_z}
+use Rattle.std.proofs.{Common.{w64, SFits, rules, sym, ◌∙◌, refl, subst}, lemmas.Int.{to_z-of_z}}
 use Rattle.civil_base.specs.DateTimes.{local_of}
-use Rattle.tz_zone.proofs.GivenLemmas.{each_read}
-use Rattle.tz_zone.specs.Sets.{IsNear, shifts_of}
-use Rattle.tz_zone.specs.UtcLaws.{second_at_utc}
+use Rattle.tz_zone.{proofs.GivenLemmas.{each_read}, specs.Sets.{IsNear, shifts_of}, specs.UtcLaws.{second_at_utc}}
 use Rattle.tz_zone.proofs.lookups.local_spans_counted.Goals as goal
 
 pub spans_of_second-requires-clause-near : goal.spans_of_second-requires-clause-near

@@ -1,9 +1,5 @@
-use Rattle.std.proofs.Common.{◌≡◌, ℕ, ◌+◌, ◌-◌, ◌∷◌, length, w64, arith, ◌∙◌, subst}
-use Rattle.std.proofs.lemmas.Int.{to_z-of_z}
-use Rattle.tz_zone.specs.Sets.{schedule_of}
-use Rattle.tz_zone.specs.Scans.{spans_from}
-use Rattle.tz_zone.proofs.OrderLemmas.{if_false}
-use Rattle.tz_zone.proofs.ScanLemmas.{step_takes, step_skips}
+use Rattle.std.proofs.{Common.{◌≡◌, ℕ, ◌+◌, ◌-◌, ◌∷◌, length, w64, arith, ◌∙◌, subst}, lemmas.Int.{to_z-of_z}}
+use Rattle.tz_zone.{specs.Sets.{schedule_of}, specs.Scans.{spans_from}, proofs.OrderLemmas.{if_false}, proofs.ScanLemmas.{step_takes, step_skips}}
 use Rattle.tz_zone.proofs.lookups.next_span.Goals as goal
 
 pub returns-then-contains-clause-next : goal.returns-then-contains-clause-next

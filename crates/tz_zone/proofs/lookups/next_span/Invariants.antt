@@ -1,6 +1,5 @@
 use Rattle.std.proofs.Common.{◌≡◌, ◌+◌, ◌-◌, length}
-use Rattle.tz_zone.specs.Sets.{schedule_of}
-use Rattle.tz_zone.specs.Scans.{spans_from}
+use Rattle.tz_zone.specs.{Sets.{schedule_of}, Scans.{spans_from}}
 use Rattle.tz_zone.proofs.lookups.next_span.Given as goal
 
 -- none was passed over

@@ -1,9 +1,5 @@
-use Rattle.std.proofs.Common.{◌≡◌, ℤ, ◌+◌, ◌<◌, length, w64, to_z, of_z, arith, sym, subst}
-use Rattle.std.proofs.lemmas.Int.{to_z-of_z}
-use Rattle.tz_zone.specs.Spans.{IsCut}
-use Rattle.tz_zone.specs.Sets.{schedule_of, shifts_of, IsBetween}
-use Rattle.tz_zone.proofs.CutLemmas.{cut_goes_up, cut_found, cut_lowest}
-use Rattle.tz_zone.proofs.FoundLemmas.{at_cut}
+use Rattle.std.proofs.{Common.{◌≡◌, ℤ, ◌+◌, ◌<◌, length, w64, to_z, of_z, arith, sym, subst}, lemmas.Int.{to_z-of_z}}
+use Rattle.tz_zone.{specs.Spans.{IsCut}, specs.Sets.{schedule_of, shifts_of, IsBetween}, proofs.CutLemmas.{cut_goes_up, cut_found, cut_lowest}, proofs.FoundLemmas.{at_cut}}
 use Rattle.tz_zone.proofs.lookups.span_between.Goals as goal
 
 pub binary_search-requires-clause-sorted : goal.binary_search-requires-clause-sorted

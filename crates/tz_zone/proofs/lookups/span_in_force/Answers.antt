@@ -1,8 +1,6 @@
-use Rattle.std.proofs.Common.{w64, SFits, rules, sym, ◌∙◌, subst}
-use Rattle.std.proofs.lemmas.Int.{to_z-of_z}
+use Rattle.std.proofs.{Common.{w64, SFits, rules, sym, ◌∙◌, subst}, lemmas.Int.{to_z-of_z}}
 use Rattle.civil_base.specs.DateTimes.{instant}
-use Rattle.tz_zone.specs.Sets.{shifts_of}
-use Rattle.tz_zone.specs.Spans.{IsCut}
+use Rattle.tz_zone.specs.{Sets.{shifts_of}, Spans.{IsCut}}
 use Rattle.tz_zone.proofs.lookups.span_in_force.Goals as goal
 
 pub returns-clause-in_force : goal.returns-clause-in_force

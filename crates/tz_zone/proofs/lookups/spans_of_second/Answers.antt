@@ -1,13 +1,5 @@
-use Rattle.std.proofs.Common.{length, ℤ, w64, to_z, of_z, sym, ap, ◌∙◌, ◌≡◌, ◌+◌, ◌-◌}
-use Rattle.std.proofs.lemmas.Int.{to_z-of_z}
-use Rattle.tz_zone.proofs.SetLemmas.{count_same}
-use Rattle.std.specs.Prelude.{take, ℕ}
-use Rattle.tz_zone.specs.Answers.{listed}
-use Rattle.tz_zone.specs.Scans.{spans_from}
-use Rattle.tz_zone.specs.Sets.{schedule_of}
-use Rattle.tz_zone.proofs.GivenLemmas.{each_at}
-use Rattle.tz_zone.proofs.Halves.{no_step}
-use Rattle.tz_zone.proofs.ScanLemmas.{first_totals}
+use Rattle.std.{proofs.Common.{length, ℤ, w64, to_z, of_z, sym, ap, ◌∙◌, ◌≡◌, ◌+◌, ◌-◌}, proofs.lemmas.Int.{to_z-of_z}, specs.Prelude.{take, ℕ}}
+use Rattle.tz_zone.{proofs.SetLemmas.{count_same}, specs.Answers.{listed}, specs.Scans.{spans_from}, specs.Sets.{schedule_of}, proofs.GivenLemmas.{each_at}, proofs.Halves.{no_step}, proofs.ScanLemmas.{first_totals}}
 use Rattle.tz_zone.proofs.lookups.spans_of_second.Goals as goal
 
 pub returns-else-orderly-clause-exact : goal.returns-else-orderly-clause-exact

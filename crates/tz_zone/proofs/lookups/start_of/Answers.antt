@@ -1,5 +1,4 @@
-use Rattle.std.proofs.Common.{w64, SFits, rules, ◌∙◌}
-use Rattle.std.proofs.lemmas.Int.{to_z-of_z}
+use Rattle.std.proofs.{Common.{w64, SFits, rules, ◌∙◌}, lemmas.Int.{to_z-of_z}}
 use Rattle.tz_zone.proofs.SetLemmas.{start_is}
 use Rattle.tz_zone.proofs.lookups.start_of.Goals as goal
 

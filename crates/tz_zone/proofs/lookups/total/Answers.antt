@@ -1,5 +1,4 @@
-use Rattle.std.proofs.Common.{w32, SFits, rules, ap, ◌∙◌}
-use Rattle.std.proofs.lemmas.Int.{to_z-of_z}
+use Rattle.std.proofs.{Common.{w32, SFits, rules, ap, ◌∙◌}, lemmas.Int.{to_z-of_z}}
 use Rattle.zone_spans.specs.Entries.{total}
 use Rattle.civil_base.specs.Ranges.{is_offset}
 use Rattle.tz_zone.proofs.SetLemmas.{span_total, span_offset}

@@ -1,9 +1,6 @@
-use Rattle.std.proofs.Common.{List, sym, ◌∙◌, subst, pos}
-use Rattle.std.specs.Prelude.{All}
+use Rattle.std.{proofs.Common.{List, sym, ◌∙◌, subst, pos}, specs.Prelude.{All}}
 use Rattle.zone_spans.specs.Entries.{Entry}
-use Rattle.tz_zone.specs.Sets.{IsSpanTime}
-use Rattle.tz_zone.proofs.OrderLemmas.{if_false}
-use Rattle.tz_zone.proofs.SetLemmas.{all_shifts}
+use Rattle.tz_zone.{specs.Sets.{IsSpanTime}, proofs.OrderLemmas.{if_false}, proofs.SetLemmas.{all_shifts}}
 use Rattle.tz_zone.proofs.set.accept.Goals as goal
 
 abbrev AllTimes : List Entry → Type 0

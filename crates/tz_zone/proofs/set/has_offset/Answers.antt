@@ -1,6 +1,4 @@
-use Rattle.std.proofs.Common.{sym, w64, SFits, rules}
-use Rattle.std.proofs.lemmas.Bool.{false_from_ne_true}
-use Rattle.std.proofs.lemmas.Int.{to_z-of_z}
+use Rattle.std.proofs.{Common.{sym, w64, SFits, rules}, lemmas.Bool.{false_from_ne_true}, lemmas.Int.{to_z-of_z}}
 use Rattle.tz_zone.proofs.OffsetLemmas.{kept_sum_fits}
 use Rattle.tz_zone.proofs.set.has_offset.Goals as goal
 

@@ -1,11 +1,7 @@
-use Rattle.std.proofs.Common.{sym, ap, ◌∙◌}
-use Rattle.std.specs.Prelude.{◌&&◌}
-use Rattle.std.specs.List.{list_all}
+use Rattle.std.{proofs.Common.{sym, ap, ◌∙◌}, specs.Prelude.{◌&&◌}, specs.List.{list_all}}
 use Rattle.zone_spans.specs.Entries.{Entry, total}
 use Rattle.civil_base.specs.Ranges.{is_offset}
-use Rattle.tz_zone.specs.Sets.{shifts_of}
-use Rattle.tz_zone.specs.Spans.{Shift}
-use Rattle.tz_zone.proofs.SetLemmas.{tests_of_shifts}
+use Rattle.tz_zone.{specs.Sets.{shifts_of}, specs.Spans.{Shift}, proofs.SetLemmas.{tests_of_shifts}}
 use Rattle.tz_zone.proofs.set.has_offsets.Goals as goal
 
 pub returns-then-has_offset : goal.returns-then-has_offset

@@ -1,6 +1,4 @@
-use Rattle.std.proofs.Common.{pos, int_le, w64, to_z, of_z, sym, ap, ◌∙◌}
-use Rattle.std.specs.Prelude.{◌&&◌}
-use Rattle.std.proofs.lemmas.Int.{to_z-of_z}
+use Rattle.std.{proofs.Common.{pos, int_le, w64, to_z, of_z, sym, ap, ◌∙◌}, specs.Prelude.{◌&&◌}, proofs.lemmas.Int.{to_z-of_z}}
 use Rattle.civil_base.specs.Ranges.{is_offset}
 use Rattle.tz_zone.proofs.OffsetLemmas.{offset_test}
 use Rattle.tz_zone.proofs.set.is_offset.Goals as goal

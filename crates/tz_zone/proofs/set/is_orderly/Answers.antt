@@ -1,10 +1,6 @@
-use Rattle.std.proofs.Common.{◌-◌, w64, SFits, arith, rules, sym, ◌∙◌}
+use Rattle.std.proofs.{Common.{◌-◌, w64, SFits, arith, rules, sym, ◌∙◌}, lemmas.Int.{to_z-of_z}}
 use Rattle.basics.specs.ComparisonLaws.{le_same}
-use Rattle.tz_zone.proofs.SetLemmas.{count_same}
-use Rattle.std.proofs.lemmas.Int.{to_z-of_z}
-use Rattle.tz_zone.specs.Sets.{schedule_of}
-use Rattle.tz_zone.proofs.OrderLemmas.{if_false}
-use Rattle.tz_zone.proofs.OrderlyLemmas.{orderly_more, neighbours_go}
+use Rattle.tz_zone.{proofs.SetLemmas.{count_same}, specs.Sets.{schedule_of}, proofs.OrderLemmas.{if_false}, proofs.OrderlyLemmas.{orderly_more, neighbours_go}}
 use Rattle.tz_zone.proofs.set.is_orderly.Goals as goal
 
 pub returns-then-not-are_in_order : goal.returns-then-not-are_in_order

@@ -1,5 +1,4 @@
-use Rattle.tz_zone.specs.Sets.{schedule_of}
-use Rattle.tz_zone.proofs.OrderlyLemmas.{IsOrderlyUpTo}
+use Rattle.tz_zone.{specs.Sets.{schedule_of}, proofs.OrderlyLemmas.{IsOrderlyUpTo}}
 use Rattle.tz_zone.proofs.set.is_orderly.Given as goal
 
 abbrev pub invariant-loop-i : goal.invariant-loop-i

@@ -1,7 +1,5 @@
-use Rattle.std.proofs.Common.{◌≡◌, ℤ, ◌-◌, ◌≤ℤ◌, w64, SFits, arith, rules, ◌∙◌, int_lt, true, false}
-use Rattle.std.proofs.lemmas.Int.{to_z-of_z, ints}
-use Rattle.tz_zone.specs.Sets.{shifts_of}
-use Rattle.tz_zone.proofs.SetLemmas.{count_same, no_fall_more}
+use Rattle.std.proofs.{Common.{◌≡◌, ℤ, ◌-◌, ◌≤ℤ◌, w64, SFits, arith, rules, ◌∙◌, int_lt, true, false}, lemmas.Int.{to_z-of_z, ints}}
+use Rattle.tz_zone.{specs.Sets.{shifts_of}, proofs.SetLemmas.{count_same, no_fall_more}}
 use Rattle.tz_zone.proofs.set.times_do_not_fall.Goals as goal
 
 le_from : (x y a b : ℤ) → x ≡ a → y ≡ b → int_lt x y ≡ false → b ≤ℤ a

@@ -1,6 +1,5 @@
 use Rattle.std.proofs.Common.{ℕ, ◌<◌, ◌≤◌, ◌≤ℤ◌, length}
-use Rattle.tz_zone.specs.Spans.{shift_at}
-use Rattle.tz_zone.specs.Sets.{shifts_of}
+use Rattle.tz_zone.specs.{Spans.{shift_at}, Sets.{shifts_of}}
 use Rattle.tz_zone.proofs.set.times_do_not_fall.Given as goal
 
 abbrev pub invariant-loop-i : goal.invariant-loop-i

@@ -1,7 +1,5 @@
-use Rattle.std.proofs.Common.{w64, SFits, rules, sym, ◌∙◌}
-use Rattle.std.proofs.lemmas.Int.{to_z-of_z}
-use Rattle.tz_zone.proofs.EachLemmas.{each_date, few_dates}
-use Rattle.tz_zone.specs.UtcLaws.{second_at_utc}
+use Rattle.std.proofs.{Common.{w64, SFits, rules, sym, ◌∙◌}, lemmas.Int.{to_z-of_z}}
+use Rattle.tz_zone.{proofs.EachLemmas.{each_date, few_dates}, specs.UtcLaws.{second_at_utc}}
 use Rattle.tz_zone.proofs.time_zone.local_second.Goals as goal
 
 pub returns-clause-value : goal.returns-clause-value

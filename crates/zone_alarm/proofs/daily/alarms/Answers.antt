@@ -1,11 +1,5 @@
-use Rattle.std.proofs.Common.{[], ◌∷◌, ◌++◌, map, ap, ◌∙◌, sym, subst}
-use Rattle.std.specs.Prelude.{All, AllPairs}
-use Rattle.std.proofs.lemmas.List.{map-append}
-use Rattle.zone_alarm.specs.RingsOnce.{AreApart, RingsOnce}
-use Rattle.zone_alarm.specs.Rings.{day_ring, rings}
-use Rattle.zone_alarm.specs.Shown.{ring_shown}
-use Rattle.zone_alarm.proofs.OnceLemmas.{all_once, all_apart}
-use Rattle.zone_alarm.proofs.RingLemmas.{one_day_more}
+use Rattle.std.{proofs.Common.{[], ◌∷◌, ◌++◌, map, ap, ◌∙◌, sym, subst}, specs.Prelude.{All, AllPairs}, proofs.lemmas.List.{map-append}}
+use Rattle.zone_alarm.{specs.RingsOnce.{AreApart, RingsOnce}, specs.Rings.{day_ring, rings}, specs.Shown.{ring_shown}, proofs.OnceLemmas.{all_once, all_apart}, proofs.RingLemmas.{one_day_more}}
 use Rattle.zone_alarm.proofs.daily.alarms.Goals as goal
 
 pub loop-past-init : goal.loop-past-init

@@ -1,6 +1,5 @@
 use Rattle.std.proofs.Common.{◌≡◌, map}
-use Rattle.zone_alarm.specs.Rings.{rings}
-use Rattle.zone_alarm.specs.Shown.{ring_shown}
+use Rattle.zone_alarm.specs.{Rings.{rings}, Shown.{ring_shown}}
 use Rattle.zone_alarm.proofs.daily.alarms.Given as goal
 
 abbrev pub invariant-loop-past : goal.invariant-loop-past

@@ -1,8 +1,6 @@
-use Rattle.std.proofs.Common.{◌≡◌, ◌+ℤ◌, pos, to_z, of_z, w32, arith, subst}
-use Rattle.std.specs.Prelude.{IsSome}
+use Rattle.std.{proofs.Common.{◌≡◌, ◌+ℤ◌, pos, to_z, of_z, w32, arith, subst}, specs.Prelude.{IsSome}}
 use Rattle.basics.specs.SignedLaws.{signed_casts}
-use Rattle.civil_base.specs.Julian.{day_of_julian}
-use Rattle.civil_base.specs.Ranges.{IsDay}
+use Rattle.civil_base.specs.{Julian.{day_of_julian}, Ranges.{IsDay}}
 use Rattle.zone_alarm.proofs.daily.day_after.Goals as goal
 
 pub returns-in-Ok-clause-has : goal.returns-in-Ok-clause-has

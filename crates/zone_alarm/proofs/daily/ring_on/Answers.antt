@@ -1,9 +1,6 @@
-use Rattle.std.proofs.Common.{ap, ◌∙◌}
-use Rattle.std.specs.Prelude.{option_map}
+use Rattle.std.{proofs.Common.{ap, ◌∙◌}, specs.Prelude.{option_map}, specs.List.{slice_get}}
 use Rattle.tz_lookup.specs.InForce.{all_in_force, shown_of}
-use Rattle.std.specs.List.{slice_get}
-use Rattle.zone_alarm.specs.Rings.{ring_on}
-use Rattle.zone_alarm.proofs.RingLemmas.{first_shown}
+use Rattle.zone_alarm.{specs.Rings.{ring_on}, proofs.RingLemmas.{first_shown}}
 use Rattle.zone_alarm.proofs.daily.ring_on.Goals as goal
 
 pub returns : goal.returns

@@ -1,9 +1,6 @@
-use Rattle.std.proofs.Common.{◌≡◌, ◌-◌, ◌++◌, take, ap, sym, ◌∙◌, arith}
-use Rattle.std.proofs.lemmas.List.{take-take}
-use Rattle.std.proofs.lemmas.Result.{on_ok_weaker}
+use Rattle.std.proofs.{Common.{◌≡◌, ◌-◌, ◌++◌, take, ap, sym, ◌∙◌, arith}, lemmas.List.{take-take}, lemmas.Result.{on_ok_weaker}}
 use Rattle.civil_base.specs.Layout.{local_text}
-use Rattle.zone_alarm.specs.RingLines.{date_text}
-use Rattle.zone_alarm.proofs.LineLemmas.{day_of_midnight, has_time, without_time}
+use Rattle.zone_alarm.{specs.RingLines.{date_text}, proofs.LineLemmas.{day_of_midnight, has_time, without_time}}
 use Rattle.zone_alarm.proofs.line.add_date.Goals as goal
 
 pub slice_bounds-local-count : goal.slice_bounds-local-count

@@ -1,6 +1,5 @@
 use Rattle.std.proofs.Common.{◌≡◌, map, take}
-use Rattle.zone_alarm.specs.RingLines.{ring_line}
-use Rattle.zone_alarm.specs.Shown.{ring_shown}
+use Rattle.zone_alarm.specs.{RingLines.{ring_line}, Shown.{ring_shown}}
 use Rattle.zone_alarm.proofs.line.lines_of.Given as goal
 
 abbrev pub invariant-loop-ring : goal.invariant-loop-ring

@@ -1,6 +1,5 @@
 use Rattle.std.proofs.Common.{sym, arith}
-use Rattle.zone_alarm.specs.Words.{start_text}
-use Rattle.zone_alarm.proofs.LineLemmas.{start_length, too_long}
+use Rattle.zone_alarm.{specs.Words.{start_text}, proofs.LineLemmas.{start_length, too_long}}
 use Rattle.zone_alarm.proofs.words.start_in.Goals as goal
 
 pub returns-then-start-time-gt-LONGEST : goal.returns-then-start-time-gt-LONGEST

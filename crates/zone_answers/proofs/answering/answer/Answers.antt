@@ -1,14 +1,6 @@
-use Rattle.std.proofs.Common.{cond, None, Some, sym, ap, ◌∙◌}
-use Rattle.std.proofs.lemmas.Result.{err_from_is_err_and, on_ok_weaker}
-use Rattle.zone_answers.specs.Asked.{asked}
-use Rattle.zone_answers.specs.AskedLaws.{asks}
-use Rattle.zone_answers.specs.Faults.{range}
-use Rattle.zone_answers.specs.Found.{found_in_table}
-use Rattle.zone_answers.specs.Opened.{IsOpened, table_of}
-use Rattle.zone_answers.specs.Requests.{name_of, request_of}
-use Rattle.zone_answers.proofs.ReadBackLemmas.{line_back}
-use Rattle.zone_answers.proofs.RefusalLemmas.{not_text_refused, bad_request_refused, refusal_is, dates_are, line_is, zone_refused}
-use Rattle.zone_answers.proofs.ZoneLemmas.{placed_there, placed_within}
+use Rattle.std.proofs.{Common.{cond, None, Some, sym, ap, ◌∙◌}, lemmas.Result.{err_from_is_err_and, on_ok_weaker}}
+use Rattle.zone_answers.specs.{Asked.{asked}, AskedLaws.{asks}, Faults.{range}, Found.{found_in_table}, Opened.{IsOpened, table_of}, Requests.{name_of, request_of}}
+use Rattle.zone_answers.proofs.{ReadBackLemmas.{line_back}, RefusalLemmas.{not_text_refused, bad_request_refused, refusal_is, dates_are, line_is, zone_refused}, ZoneLemmas.{placed_there, placed_within}}
 use Rattle.zone_answers.proofs.answering.answer.Goals as goal
 
 pub returns-in_default-clause-err : goal.returns-in_default-clause-err

@@ -1,10 +1,5 @@
-use Rattle.std.proofs.Common.{◌∙◌, ap, arith, length, subst}
-use Rattle.std.proofs.lemmas.Grind.{common_steps}
-use Rattle.std.specs.Prelude.{All}
-use Rattle.zone_answers.specs.Due.{shown_for}
-use Rattle.zone_answers.specs.Found.{found_in_table}
-use Rattle.zone_answers.specs.ReadBack.{IsReadBack}
-use Rattle.zone_answers.proofs.ReadBackLemmas.{lines_back}
+use Rattle.std.{proofs.Common.{◌∙◌, ap, arith, length, subst}, proofs.lemmas.Grind.{common_steps}, specs.Prelude.{All}}
+use Rattle.zone_answers.{specs.Due.{shown_for}, specs.Found.{found_in_table}, specs.ReadBack.{IsReadBack}, proofs.ReadBackLemmas.{lines_back}}
 use Rattle.zone_answers.proofs.answering.answer_all.Goals as goal
 
 pub overflow_add-number : goal.overflow_add-number

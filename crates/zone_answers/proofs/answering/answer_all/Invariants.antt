@@ -1,13 +1,6 @@
-use Rattle.std.proofs.Common.{◌≡◌, ◌+◌, ◌++◌, length, map}
-use Rattle.std.specs.List.{flat_map}
-use Rattle.std.specs.Prelude.{All}
-use Rattle.zone_source.specs.Lines.{lines_of}
-use Rattle.zone_source.specs.LinesLeft.{lines_left}
-use Rattle.zone_answers.specs.Due.{answer_line, shown_for}
-use Rattle.zone_answers.specs.Faults.{first_refused}
-use Rattle.zone_answers.specs.Found.{found_in_table}
-use Rattle.zone_answers.specs.Opened.{table_of, AreOpened}
-use Rattle.zone_answers.specs.ReadBack.{IsReadBack}
+use Rattle.std.{proofs.Common.{◌≡◌, ◌+◌, ◌++◌, length, map}, specs.List.{flat_map}, specs.Prelude.{All}}
+use Rattle.zone_source.specs.{Lines.{lines_of}, LinesLeft.{lines_left}}
+use Rattle.zone_answers.specs.{Due.{answer_line, shown_for}, Faults.{first_refused}, Found.{found_in_table}, Opened.{table_of, AreOpened}, ReadBack.{IsReadBack}}
 use Rattle.zone_answers.proofs.answering.answer_all.Given as goal
 
 abbrev pub invariant-loop-line : goal.invariant-loop-line

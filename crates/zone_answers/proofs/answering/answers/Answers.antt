@@ -1,7 +1,5 @@
 use Rattle.std.proofs.Common.{subst}
-use Rattle.zone_answers.specs.Faults.{fault}
-use Rattle.zone_answers.specs.Told.{TellsReading}
-use Rattle.zone_answers.proofs.AnsweringLemmas.{never_ends}
+use Rattle.zone_answers.{specs.Faults.{fault}, specs.Told.{TellsReading}, proofs.AnsweringLemmas.{never_ends}}
 use Rattle.zone_answers.proofs.answering.answers.Goals as goal
 
 pub unreachable-requires : goal.unreachable-requires

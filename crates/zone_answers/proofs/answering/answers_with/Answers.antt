@@ -1,8 +1,5 @@
-use Rattle.std.proofs.Common.{sym, subst, ◌∙◌}
-use Rattle.std.specs.Prelude.{All}
-use Rattle.std.proofs.lemmas.Result.{MatchResult-weaker, IfOk-weaker, on_ok_weaker, err_from_is_err_and}
-use Rattle.zone_answers.specs.ReadBack.{IsReadBack}
-use Rattle.zone_answers.proofs.AnsweringLemmas.{lines_are, shown_are, fault_is, fault_first, told_along}
+use Rattle.std.{proofs.Common.{sym, subst, ◌∙◌}, specs.Prelude.{All}, proofs.lemmas.Result.{MatchResult-weaker, IfOk-weaker, on_ok_weaker, err_from_is_err_and}}
+use Rattle.zone_answers.{specs.ReadBack.{IsReadBack}, proofs.AnsweringLemmas.{lines_are, shown_are, fault_is, fault_first, told_along}}
 use Rattle.zone_answers.proofs.answering.answers_with.Goals as goal
 
 pub returns-in_err-table-clause-err : goal.returns-in_err-table-clause-err

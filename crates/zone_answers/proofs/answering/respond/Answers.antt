@@ -1,7 +1,6 @@
-use Rattle.zone_answers.specs.Responses.{due_in}
-use Rattle.zone_outside.specs.Seen.{output_seen}
-use Rattle.zone_answers.proofs.ResponseLemmas.{due_valid, wrote, wrote_some, error_response}
+use Rattle.zone_answers.{specs.Responses.{due_in}, proofs.ResponseLemmas.{due_valid, wrote, wrote_some, error_response}}
 use Rattle.zone_answers.proofs.answering.respond.Goals as goal
+use Rattle.zone_outside.specs.Seen.{output_seen}
 
 pub returns-in-Ok-write_lines : goal.returns-in-Ok-write_lines
 returns-in-Ok-write_lines g c =

@@ -1,6 +1,5 @@
 use Rattle.std.proofs.Common.{◌∙◌, ◌++◌, ap, arith, length, length-append}
-use Rattle.zone_answers.specs.Made.{made_requests}
-use Rattle.zone_answers.proofs.MadeLemmas.{more_requests}
+use Rattle.zone_answers.{specs.Made.{made_requests}, proofs.MadeLemmas.{more_requests}}
 use Rattle.zone_answers.proofs.made.made_requests.Goals as goal
 
 pub loop-before-init : goal.loop-before-init

@@ -1,6 +1,5 @@
 use Rattle.std.proofs.Common.{◌∙◌, ◌++◌, ap, arith, length, length-append}
-use Rattle.zone_answers.specs.Made.{made_source}
-use Rattle.zone_answers.proofs.MadeLemmas.{more_zones}
+use Rattle.zone_answers.{specs.Made.{made_source}, proofs.MadeLemmas.{more_zones}}
 use Rattle.zone_answers.proofs.made.made_source.Goals as goal
 
 pub loop-before-init : goal.loop-before-init

@@ -1,6 +1,4 @@
-use Rattle.std.proofs.Common.{◌≡◌, take}
-use Rattle.std.specs.Char.{is_digit}
-use Rattle.std.specs.List.{list_all}
+use Rattle.std.{proofs.Common.{◌≡◌, take}, specs.Char.{is_digit}, specs.List.{list_all}}
 use Rattle.zone_answers.proofs.request.all_digits.Given as goal
 
 abbrev pub invariant-loop-i : goal.invariant-loop-i

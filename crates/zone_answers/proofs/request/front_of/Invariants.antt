@@ -1,5 +1,4 @@
-use Rattle.std.proofs.Common.{◌≡◌, take}
-use Rattle.std.specs.Str.Parse.{digits_value}
+use Rattle.std.{proofs.Common.{◌≡◌, take}, specs.Str.Parse.{digits_value}}
 use Rattle.zone_answers.proofs.request.front_of.Given as goal
 
 abbrev pub invariant-loop-i : goal.invariant-loop-i

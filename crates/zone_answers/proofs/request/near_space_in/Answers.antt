@@ -1,5 +1,4 @@
-use Rattle.std.proofs.Common.{ap, arith, length, sym}
-use Rattle.std.proofs.lemmas.List.Sums.{position_or_len_is}
+use Rattle.std.proofs.{Common.{ap, arith, length, sym}, lemmas.List.Sums.{position_or_len_is}}
 use Rattle.zone_answers.specs.Requests.{is_space}
 use Rattle.zone_answers.proofs.request.near_space_in.Goals as goal
 

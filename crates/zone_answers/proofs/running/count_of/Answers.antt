@@ -1,5 +1,4 @@
-use Rattle.std.proofs.Common.{sym, ◌∙◌, ap}
-use Rattle.std.specs.Bool.{then_some}
+use Rattle.std.{proofs.Common.{sym, ◌∙◌, ap}, specs.Bool.{then_some}}
 use Rattle.zone_answers.proofs.CountLemmas.{count_read}
 use Rattle.zone_answers.proofs.running.count_of.Goals as goal
 

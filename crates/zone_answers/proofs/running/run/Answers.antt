@@ -1,5 +1,4 @@
-use Rattle.std.proofs.Common.{map, sym}
-use Rattle.std.specs.Prelude.{string_bytes}
+use Rattle.std.{proofs.Common.{map, sym}, specs.Prelude.{string_bytes}}
 use Rattle.zone_answers.proofs.CountLemmas.{asks_few}
 use Rattle.zone_answers.proofs.running.run.Goals as goal
 

@@ -1,5 +1,4 @@
-use Rattle.std.proofs.Common.{ap, arith, map, rules, subst, sym, ◌∙◌}
-use Rattle.std.proofs.lemmas.List.{take_all}
+use Rattle.std.proofs.{Common.{ap, arith, map, rules, subst, sym, ◌∙◌}, lemmas.List.{take_all}}
 use Rattle.civil_base.specs.Layout.{local_text}
 use Rattle.tz_zone.specs.AllLeft.{all_left}
 use Rattle.tz_lookup.specs.InForce.{shown_of}

@@ -1,8 +1,6 @@
 use Rattle.std.proofs.Common.{◌≡◌, ◌++◌, length, map, take}
-use Rattle.tz_lookup.specs.AllLeft.{all_left}
-use Rattle.tz_lookup.specs.InForce.{all_in_force, shown_of}
-use Rattle.zone_answers.specs.Due.{answer_text, text_shown}
-use Rattle.zone_answers.proofs.ShowingLemmas.{AreAt, texts_left}
+use Rattle.tz_lookup.specs.{AllLeft.{all_left}, InForce.{all_in_force, shown_of}}
+use Rattle.zone_answers.{specs.Due.{answer_text, text_shown}, proofs.ShowingLemmas.{AreAt, texts_left}}
 use Rattle.zone_answers.proofs.showing.add_each.Given as goal
 
 abbrev pub invariant-loop-date : goal.invariant-loop-date

@@ -1,5 +1,4 @@
-use Rattle.std.proofs.Common.{◌∷◌, ◌++◌, ap, sym, ◌∙◌}
-use Rattle.std.proofs.lemmas.Result.{on_ok_weaker}
+use Rattle.std.proofs.{Common.{◌∷◌, ◌++◌, ap, sym, ◌∙◌}, lemmas.Result.{on_ok_weaker}}
 use Rattle.civil_base.specs.Layout.{offset_text, zoned_text}
 use Rattle.tz_lookup.specs.InForce.{shown_of}
 use Rattle.zone_answers.proofs.showing.add_spelled.Goals as goal

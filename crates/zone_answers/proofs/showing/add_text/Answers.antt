@@ -1,5 +1,4 @@
-use Rattle.std.proofs.Common.{◌++◌, ap, ◌∙◌}
-use Rattle.std.proofs.lemmas.Result.{on_ok_weaker}
+use Rattle.std.proofs.{Common.{◌++◌, ap, ◌∙◌}, lemmas.Result.{on_ok_weaker}}
 use Rattle.tz_lookup.specs.InForce.{shown_of}
 use Rattle.zone_answers.proofs.showing.add_text.Goals as goal
 

@@ -1,9 +1,8 @@
 use Rattle.std.proofs.Common.{[], map}
 use Rattle.civil_base.specs.DateTimes.{instant}
-use Rattle.zone_command.specs.Replies.{at_lines, instants_at}
-use Rattle.zone_moments.specs.Shown.{asked}
-use Rattle.zone_command.proofs.AnswerLemmas.{answered}
+use Rattle.zone_command.{specs.Replies.{at_lines, instants_at}, proofs.AnswerLemmas.{answered}}
 use Rattle.zone_command.proofs.answering.at_reply.Goals as goal
+use Rattle.zone_moments.specs.Shown.{asked}
 
 pub returns : goal.returns
 returns g c =

@@ -1,5 +1,4 @@
-use Rattle.zone_command.specs.Replies.{convert_lines}
-use Rattle.zone_command.proofs.AnswerLemmas.{answered_both}
+use Rattle.zone_command.{specs.Replies.{convert_lines}, proofs.AnswerLemmas.{answered_both}}
 use Rattle.zone_command.proofs.answering.convert_reply.Goals as goal
 
 pub returns : goal.returns

@@ -1,7 +1,6 @@
 use Rattle.std.proofs.Common.{sym, ◌∙◌}
 use Rattle.civil_base.specs.DateTimes.{instant}
-use Rattle.zone_command.specs.Replies.{list_lines}
-use Rattle.zone_command.proofs.AnswerLemmas.{answered, in_window}
+use Rattle.zone_command.{specs.Replies.{list_lines}, proofs.AnswerLemmas.{answered, in_window}}
 use Rattle.zone_command.proofs.answering.list_reply.Goals as goal
 
 pub returns-in_ok-zone : goal.returns-in_ok-zone

@@ -1,9 +1,5 @@
 use Rattle.std.proofs.Common.{◌≡◌, List, ℕ, Err, OnOk, map, refl, subst, sym}
-use Rattle.zone_command.specs.Named.{named_in, named_view}
-use Rattle.zone_command.specs.Refusals.{IsTold}
-use Rattle.zone_command.specs.Replies.{IsStep}
-use Rattle.zone_command.proofs.ChartLemmas.{pushed, refused}
-use Rattle.zone_command.proofs.charts.add_charted.Goals.{in-Ok-push, in-Err}
+use Rattle.zone_command.{specs.Named.{named_in, named_view}, specs.Refusals.{IsTold}, specs.Replies.{IsStep}, proofs.ChartLemmas.{pushed, refused}, proofs.charts.add_charted.Goals.{in-Ok-push, in-Err}}
 use Rattle.zone_command.proofs.charts.add_charted.Goals as goal
 use Rattle.zone_displays.specs.SeenZones.{named}
 

@@ -1,9 +1,8 @@
 use Rattle.std.proofs.Common.{◌≡◌, drop, map}
-use Rattle.zone_command.specs.Named.{named_view}
-use Rattle.zone_command.specs.Replies.{behind_found, named_zones}
+use Rattle.zone_command.specs.{Named.{named_view}, Replies.{behind_found, named_zones}}
+use Rattle.zone_command.proofs.charts.charted.Given as goal
 use Rattle.zone_displays.specs.SeenZones.{named}
 use Rattle.zone_words.specs.Shown.{word_shown}
-use Rattle.zone_command.proofs.charts.charted.Given as goal
 
 -- the zones so far, and those of the names left, are those of all names
 abbrev pub invariant-loop-name : goal.invariant-loop-name

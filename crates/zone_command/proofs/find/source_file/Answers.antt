@@ -1,6 +1,4 @@
-use Rattle.std.proofs.Common.{◌≡◌, ℕ, List, refl, ap, ◌∙◌}
-use Rattle.std.proofs.lemmas.Result.{err_from_is_err_and}
-use Rattle.std.specs.Prelude.{Option, Some, None, Err, IfSome, codes}
+use Rattle.std.{proofs.Common.{◌≡◌, ℕ, List, refl, ap, ◌∙◌}, proofs.lemmas.Result.{err_from_is_err_and}, specs.Prelude.{Option, Some, None, Err, IfSome, codes}}
 use Rattle.zone_command.specs.Ends.{file_of}
 use Rattle.zone_command.proofs.find.source_file.Goals as goal
 

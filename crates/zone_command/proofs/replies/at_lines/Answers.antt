@@ -1,14 +1,8 @@
-use Rattle.std.proofs.Common.{◌≡◌, ℕ, ◌+◌, ◌<◌, List, length, map, drop, slice_index_or, ℤ, Ok, ap, sym, ◌∙◌}
-use Rattle.std.proofs.lemmas.List.{at_drop_all, at_drop_more}
+use Rattle.std.proofs.{Common.{◌≡◌, ℕ, ◌+◌, ◌<◌, List, length, map, drop, slice_index_or, ℤ, Ok, ap, sym, ◌∙◌}, lemmas.List.{at_drop_all, at_drop_more}}
 use Rattle.civil_base.specs.DateTimes.{instant}
-use Rattle.zone_moments.specs.Shown.{asked}
-use Rattle.zone_moments.specs.declared.answer_form.AnswerForm.{AnswerForm}
-use Rattle.zone_moments.specs.declared.instant.Asked.{Asked}
-use Rattle.zone_replies.specs.Faults.{Due, behind}
-use Rattle.zone_replies.specs.Instants.{line_due}
-use Rattle.zone_replies.specs.Views.{ZoneView}
-use Rattle.zone_command.specs.Answers.{◌>>=◌}
-use Rattle.zone_command.specs.Replies.{at_lines, instant_at, instants_at}
+use Rattle.zone_moments.specs.{Shown.{asked}, declared.answer_form.AnswerForm.{AnswerForm}, declared.instant.Asked.{Asked}}
+use Rattle.zone_replies.specs.{Faults.{Due, behind}, Instants.{line_due}, Views.{ZoneView}}
+use Rattle.zone_command.specs.{Answers.{◌>>=◌}, Replies.{at_lines, instant_at, instants_at}}
 use Rattle.zone_command.proofs.replies.at_lines.Goals as goal
 
 -- what is left, by what is due of the next instant

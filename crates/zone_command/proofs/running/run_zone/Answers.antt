@@ -1,8 +1,5 @@
 use Rattle.std.proofs.Common.{inl, inr}
-use Rattle.zone_command.proofs.ShortLemmas.{short}
-use Rattle.zone_command.specs.Ends.{failed}
-use Rattle.zone_command.specs.FailureShown.{failure_shown}
-use Rattle.zone_command.specs.Failures.{no_memory}
+use Rattle.zone_command.{proofs.ShortLemmas.{short}, specs.Ends.{failed}, specs.FailureShown.{failure_shown}, specs.Failures.{no_memory}}
 use Rattle.zone_command.proofs.running.run_zone.Goals as goal
 
 -- its line was told, or that memory ran out

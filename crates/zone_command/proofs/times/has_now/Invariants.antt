@@ -1,5 +1,4 @@
-use Rattle.std.proofs.Common.{◌≡◌, drop, map, is_none}
-use Rattle.std.specs.List.{list_any}
+use Rattle.std.{proofs.Common.{◌≡◌, drop, map, is_none}, specs.List.{list_any}}
 use Rattle.zone_moments.specs.Shown.{asked}
 use Rattle.zone_command.proofs.times.has_now.Given as goal
 

@@ -1,10 +1,6 @@
-use Rattle.std.proofs.Common.{◌≡◌, ℕ, ◌<◌, List, [], ◌∷◌, length, map, get_or, slice_index_or, pos, to_z-of_z, FitsSigned, w64, rules, ap, ◌∙◌, arith}
-use Rattle.std.specs.List.{flat_map}
-use Rattle.zone_replies.specs.Skips.{after_of}
-use Rattle.zone_replies.specs.Views.{ZoneView}
-use Rattle.zone_displays.specs.Axes.{offsets_in, year_begin}
-use Rattle.zone_displays.specs.SeenZones.{named}
-use Rattle.zone_displays.specs.declared.zone.ChartZone.{ChartZone}
+use Rattle.std.{proofs.Common.{◌≡◌, ℕ, ◌<◌, List, [], ◌∷◌, length, map, get_or, slice_index_or, pos, to_z-of_z, FitsSigned, w64, rules, ap, ◌∙◌, arith}, specs.List.{flat_map}}
+use Rattle.zone_replies.specs.{Skips.{after_of}, Views.{ZoneView}}
+use Rattle.zone_displays.specs.{Axes.{offsets_in, year_begin}, SeenZones.{named}, declared.zone.ChartZone.{ChartZone}}
 use Rattle.zone_displays.proofs.axes.first_offset.Goals as goal
 
 first_is : {Z : Type 0} → (year : ℕ) (view : Z → ZoneView) (zones : List (ChartZone Z)) (first : ChartZone Z) → 0 < length zones

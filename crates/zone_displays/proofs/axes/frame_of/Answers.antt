@@ -1,10 +1,5 @@
-use Rattle.std.proofs.Common.{List, map, take, slice_index_or, ℤ, to_z-of_z, FitsSigned, w8, ap, sym, ◌∙◌, rules}
-use Rattle.std.specs.List.{flat_map, fold}
-use Rattle.std.proofs.lemmas.List.{take_all}
-use Rattle.std.proofs.lemmas.List.Sums.{fold-append}
-use Rattle.zone_displays.specs.Axes.{hour_above, hour_below, hours_in, offsets_in, widened}
-use Rattle.zone_displays.specs.SeenZones.{Named, named}
-use Rattle.zone_displays.proofs.RangeLemmas.{flat_more}
+use Rattle.std.{proofs.Common.{List, map, take, slice_index_or, ℤ, to_z-of_z, FitsSigned, w8, ap, sym, ◌∙◌, rules}, specs.List.{flat_map, fold}, proofs.lemmas.List.{take_all}, proofs.lemmas.List.Sums.{fold-append}}
+use Rattle.zone_displays.{specs.Axes.{hour_above, hour_below, hours_in, offsets_in, widened}, specs.SeenZones.{Named, named}, proofs.RangeLemmas.{flat_more}}
 use Rattle.zone_displays.proofs.axes.frame_of.Goals as goal
 
 pub loop-zone-preserved : goal.loop-zone-preserved

@@ -1,7 +1,5 @@
-use Rattle.std.proofs.Common.{◌≡◌, map, take}
-use Rattle.std.specs.List.{flat_map, fold}
-use Rattle.zone_displays.specs.Axes.{offsets_in, widened}
-use Rattle.zone_displays.specs.SeenZones.{named}
+use Rattle.std.{proofs.Common.{◌≡◌, map, take}, specs.List.{flat_map, fold}}
+use Rattle.zone_displays.specs.{Axes.{offsets_in, widened}, SeenZones.{named}}
 use Rattle.zone_displays.proofs.axes.frame_of.Given as goal
 
 abbrev pub invariant-loop-zone : goal.invariant-loop-zone

@@ -1,8 +1,7 @@
 use Rattle.std.proofs.Common.{◌≡◌, ℤ, pos, slice_index_or, to_z-of_z, FitsSigned, w64, rules, ap, sym, ◌∙◌}
-use Rattle.zone_displays.specs.Axes.{widened}
-use Rattle.zone_displays.proofs.RangeLemmas.{fold_more}
-use Rattle.zone_replies.specs.Skips.{after_of}
+use Rattle.zone_displays.{specs.Axes.{widened}, proofs.RangeLemmas.{fold_more}}
 use Rattle.zone_displays.proofs.axes.widened_by.Goals as goal
+use Rattle.zone_replies.specs.Skips.{after_of}
 
 pub loop-change-preserved : goal.loop-change-preserved
 loop-change-preserved g c =

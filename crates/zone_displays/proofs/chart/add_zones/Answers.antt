@@ -1,8 +1,5 @@
 use Rattle.std.proofs.lemmas.Result.{err_from_is_err_and}
-use Rattle.zone_displays.specs.Grids.{bottom_of}
-use Rattle.zone_displays.specs.Lines.{zone_due}
-use Rattle.zone_displays.specs.SeenZones.{named}
-use Rattle.zone_displays.proofs.DueLemmas.{loop_end, loop_fault, loop_more}
+use Rattle.zone_displays.{specs.Grids.{bottom_of}, specs.Lines.{zone_due}, specs.SeenZones.{named}, proofs.DueLemmas.{loop_end, loop_fault, loop_more}}
 use Rattle.zone_displays.proofs.chart.add_zones.Goals as goal
 
 pub returns-in_err-add_zone-clause-err : goal.returns-in_err-add_zone-clause-err

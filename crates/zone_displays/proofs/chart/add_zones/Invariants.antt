@@ -1,9 +1,6 @@
 use Rattle.std.proofs.Common.{◌≡◌, drop, map}
 use Rattle.zone_replies.specs.Faults.{behind}
-use Rattle.zone_displays.specs.Frames.{each_numbered}
-use Rattle.zone_displays.specs.Grids.{bottom_of}
-use Rattle.zone_displays.specs.Lines.{zone_due}
-use Rattle.zone_displays.specs.SeenZones.{named}
+use Rattle.zone_displays.specs.{Frames.{each_numbered}, Grids.{bottom_of}, Lines.{zone_due}, SeenZones.{named}}
 use Rattle.zone_displays.proofs.chart.add_zones.Given as goal
 
 abbrev pub invariant-loop-number : goal.invariant-loop-number

@@ -1,9 +1,6 @@
-use Rattle.std.proofs.Common.{◌≡◌, ℕ, ◌+◌, ◌<◌, Bool, ◌||◌, List, ◌∷◌, length, map, drop, slice_index_or, refl, ℤ, pos, int_lt, to_z, of_z, to_z-of_z, FitsSigned, w32, ap, sym, ◌∙◌, arith, rules}
-use Rattle.std.proofs.lemmas.List.{at_drop_more, at_drop_all}
+use Rattle.std.proofs.{Common.{◌≡◌, ℕ, ◌+◌, ◌<◌, Bool, ◌||◌, List, ◌∷◌, length, map, drop, slice_index_or, refl, ℤ, pos, int_lt, to_z, of_z, to_z-of_z, FitsSigned, w32, ap, sym, ◌∙◌, arith, rules}, lemmas.List.{at_drop_more, at_drop_all}}
 use Rattle.basics.specs.SignedLaws.{signed_casts}
-use Rattle.zone_displays.specs.Charts.{are_untold}
-use Rattle.zone_displays.specs.SeenZones.{named}
-use Rattle.zone_displays.specs.declared.zone.ChartZone.{ChartZone}
+use Rattle.zone_displays.specs.{Charts.{are_untold}, SeenZones.{named}, declared.zone.ChartZone.{ChartZone}}
 use Rattle.zone_displays.proofs.chart.are_untold.Goals as goal
 
 -- the test of the code is that of the numbers

@@ -1,6 +1,5 @@
 use Rattle.std.proofs.Common.{◌≡◌, drop, map}
-use Rattle.zone_displays.specs.Charts.{are_untold}
-use Rattle.zone_displays.specs.SeenZones.{named}
+use Rattle.zone_displays.specs.{Charts.{are_untold}, SeenZones.{named}}
 use Rattle.zone_displays.proofs.chart.are_untold.Given as goal
 
 abbrev pub invariant-loop-zone : goal.invariant-loop-zone

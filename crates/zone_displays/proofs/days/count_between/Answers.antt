@@ -1,7 +1,5 @@
-use Rattle.std.proofs.Common.{◌≡◌, ◌+◌, ◌/◌, ◌<◌, false, cond, ℤ, pos, ◌-ℤ◌, ◌<ℤ◌, ◌≤ℤ◌, int_lt, unsigned_abs, to_z, of_z, FitsSigned, w32, w64, rules, ap, sym, ◌∙◌, arith}
-use Rattle.std.proofs.Math.Nat.{div-le_self}
-use Rattle.basics.specs.ComparisonLaws.{lt_fail, lt_from_fail}
-use Rattle.basics.specs.SignedLaws.{natural, signed_casts}
+use Rattle.std.proofs.{Common.{◌≡◌, ◌+◌, ◌/◌, ◌<◌, false, cond, ℤ, pos, ◌-ℤ◌, ◌<ℤ◌, ◌≤ℤ◌, int_lt, unsigned_abs, to_z, of_z, FitsSigned, w32, w64, rules, ap, sym, ◌∙◌, arith}, Math.Nat.{div-le_self}}
+use Rattle.basics.specs.{ComparisonLaws.{lt_fail, lt_from_fail}, SignedLaws.{natural, signed_casts}}
 use Rattle.civil_base.specs.Julian.{julian_of}
 use Rattle.zone_displays.specs.Days.{last_of}
 use Rattle.zone_displays.proofs.days.count_between.Goals as goal

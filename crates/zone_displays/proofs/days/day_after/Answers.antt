@@ -1,12 +1,8 @@
-use Rattle.std.proofs.Common.{◌≡◌, ℕ, ◌*◌, false, Option, Result, Ok, Err, ℤ, pos, ◌+ℤ◌, ◌<ℤ◌, int_le, to_z, of_z, to_z-of_z, FitsSigned, w32, w64, Decides, rules, subst, ap, sym, ◌∙◌, arith}
-use Rattle.std.specs.Option.{IfSome}
-use Rattle.std.specs.Result.{IfOk, is_ok, result_ok}
-use Rattle.std.proofs.lemmas.Bool.{false≢true}
+use Rattle.std.proofs.{Common.{◌≡◌, ℕ, ◌*◌, false, Option, Result, Ok, Err, ℤ, pos, ◌+ℤ◌, ◌<ℤ◌, int_le, to_z, of_z, to_z-of_z, FitsSigned, w32, w64, Decides, rules, subst, ap, sym, ◌∙◌, arith}, lemmas.Bool.{false≢true}}
 use Rattle.std.proofs.lemmas.Bool.Decides.{Decides-and, Decides-like, same_from_decides}
-use Rattle.basics.specs.ComparisonLaws.{le_from_pass, le_pass}
-use Rattle.basics.specs.SignedLaws.{signed_casts}
-use Rattle.civil_base.specs.Julian.{day_of_julian, julian_of}
-use Rattle.civil_base.specs.Ranges.{IsDay, first_day, last_day}
+use Rattle.std.specs.{Option.{IfSome}, Result.{IfOk, is_ok, result_ok}}
+use Rattle.basics.specs.{ComparisonLaws.{le_from_pass, le_pass}, SignedLaws.{signed_casts}}
+use Rattle.civil_base.specs.{Julian.{day_of_julian, julian_of}, Ranges.{IsDay, first_day, last_day}}
 use Rattle.zone_displays.specs.Days.{day_after, is_dated}
 use Rattle.zone_displays.proofs.days.day_after.Goals as goal
 

@@ -1,5 +1,4 @@
-use Rattle.std.proofs.Common.{arith}
-use Rattle.std.proofs.lemmas.List.Sums.{common_prefix_len-drop_yes}
+use Rattle.std.proofs.{Common.{arith}, lemmas.List.Sums.{common_prefix_len-drop_yes}}
 use Rattle.zone_displays.proofs.EditLemmas.{ended}
 use Rattle.zone_displays.proofs.edit.same_in_front.Goals as goal
 

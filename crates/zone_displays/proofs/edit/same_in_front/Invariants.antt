@@ -1,6 +1,4 @@
-use Rattle.std.proofs.Common.{◌≡◌, ◌+◌, drop}
-use Rattle.std.specs.Char.{eq_ignore_ascii_case}
-use Rattle.std.specs.List.{common_prefix_len}
+use Rattle.std.{proofs.Common.{◌≡◌, ◌+◌, drop}, specs.Char.{eq_ignore_ascii_case}, specs.List.{common_prefix_len}}
 use Rattle.zone_displays.proofs.edit.same_in_front.Given as goal
 
 abbrev pub invariant-loop-index : goal.invariant-loop-index

@@ -1,5 +1,4 @@
-use Rattle.zone_displays.specs.Escapes.{escaped, escaped_text}
-use Rattle.zone_displays.proofs.RangeLemmas.{all_items, item_more}
+use Rattle.zone_displays.{specs.Escapes.{escaped, escaped_text}, proofs.RangeLemmas.{all_items, item_more}}
 use Rattle.zone_displays.proofs.escape.add_escaped.Goals as goal
 
 pub loop-byte-preserved : goal.loop-byte-preserved

@@ -1,6 +1,5 @@
 use Rattle.std.proofs.Common.{arith, refl}
-use Rattle.zone_displays.specs.Grids.{hour_mark}
-use Rattle.zone_displays.proofs.RangeLemmas.{one_more}
+use Rattle.zone_displays.{specs.Grids.{hour_mark}, proofs.RangeLemmas.{one_more}}
 use Rattle.zone_displays.proofs.grid.add_hours.Goals as goal
 
 pub loop-below-preserved : goal.loop-below-preserved

@@ -1,7 +1,5 @@
-use Rattle.std.proofs.Common.{◌≡◌, ◌-◌, ◌++◌, ap, ◌∙◌, arith}
-use Rattle.std.specs.List.{flat_map, range_with_len}
-use Rattle.zone_displays.specs.Grids.{bottom_of, month_mark}
-use Rattle.zone_displays.proofs.RangeLemmas.{one_more}
+use Rattle.std.{proofs.Common.{◌≡◌, ◌-◌, ◌++◌, ap, ◌∙◌, arith}, specs.List.{flat_map, range_with_len}}
+use Rattle.zone_displays.{specs.Grids.{bottom_of, month_mark}, proofs.RangeLemmas.{one_more}}
 use Rattle.zone_displays.proofs.grid.add_months.Goals as goal
 
 pub loop-month-preserved : goal.loop-month-preserved

@@ -1,5 +1,4 @@
-use Rattle.std.proofs.Common.{◌≡◌, ◌-◌, ◌++◌}
-use Rattle.std.specs.List.{flat_map, range_with_len}
+use Rattle.std.{proofs.Common.{◌≡◌, ◌-◌, ◌++◌}, specs.List.{flat_map, range_with_len}}
 use Rattle.zone_displays.specs.Grids.{bottom_of, month_mark}
 use Rattle.zone_displays.proofs.grid.add_months.Given as goal
 

@@ -1,7 +1,5 @@
-use Rattle.std.proofs.Common.{◌≡◌, ◌++◌, ap, ◌∙◌}
-use Rattle.std.specs.Prelude.{codes, decimal}
-use Rattle.zone_displays.specs.Grids.{bottom_of, legend_place, open_text}
-use Rattle.zone_displays.proofs.RangeLemmas.{three}
+use Rattle.std.{proofs.Common.{◌≡◌, ◌++◌, ap, ◌∙◌}, specs.Prelude.{codes, decimal}}
+use Rattle.zone_displays.{specs.Grids.{bottom_of, legend_place, open_text}, proofs.RangeLemmas.{three}}
 use Rattle.zone_displays.proofs.grid.add_open.Goals as goal
 
 pub returns : goal.returns

@@ -1,7 +1,5 @@
-use Rattle.std.proofs.Common.{◌≡◌, ◌++◌, ◌∙◌}
-use Rattle.std.specs.Prelude.{codes}
-use Rattle.zone_displays.specs.Lines.{colour, group_text}
-use Rattle.zone_displays.proofs.RangeLemmas.{three}
+use Rattle.std.{proofs.Common.{◌≡◌, ◌++◌, ◌∙◌}, specs.Prelude.{codes}}
+use Rattle.zone_displays.{specs.Lines.{colour, group_text}, proofs.RangeLemmas.{three}}
 use Rattle.zone_displays.proofs.line.add_group.Goals as goal
 
 pub returns : goal.returns

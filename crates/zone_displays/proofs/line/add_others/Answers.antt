@@ -1,5 +1,4 @@
-use Rattle.std.proofs.Common.{◌≡◌, ℕ, List, ◌++◌, ℤ, rules, append_assoc, ap, ◌∙◌}
-use Rattle.std.specs.Prelude.{codes}
+use Rattle.std.{proofs.Common.{◌≡◌, ℕ, List, ◌++◌, ℤ, rules, append_assoc, ap, ◌∙◌}, specs.Prelude.{codes}}
 use Rattle.zone_displays.proofs.RangeLemmas.{all_items, second_more}
 use Rattle.zone_displays.proofs.line.add_others.Goals as goal
 

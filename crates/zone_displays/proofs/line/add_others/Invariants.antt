@@ -1,6 +1,4 @@
-use Rattle.std.proofs.Common.{◌≡◌, ◌++◌, take}
-use Rattle.std.specs.List.{flat_map}
-use Rattle.std.specs.Prelude.{codes}
+use Rattle.std.{proofs.Common.{◌≡◌, ◌++◌, take}, specs.List.{flat_map}, specs.Prelude.{codes}}
 use Rattle.zone_displays.proofs.line.add_others.Given as goal
 
 abbrev pub invariant-loop-change : goal.invariant-loop-change

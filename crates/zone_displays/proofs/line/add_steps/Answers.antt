@@ -1,6 +1,5 @@
 use Rattle.std.proofs.Common.{ℕ, List, ℤ, rules}
-use Rattle.zone_displays.specs.Lines.{step_text}
-use Rattle.zone_displays.proofs.RangeLemmas.{all_items, second_more}
+use Rattle.zone_displays.{specs.Lines.{step_text}, proofs.RangeLemmas.{all_items, second_more}}
 use Rattle.zone_displays.proofs.line.add_steps.Goals as goal
 
 pub loop-change-preserved : goal.loop-change-preserved

@@ -1,14 +1,9 @@
-use Rattle.std.proofs.Common.{◌≡◌, true, false, not, map, ap, sym, ◌∙◌, Ok}
-use Rattle.std.proofs.lemmas.Result.{err_from_is_err_and}
+use Rattle.std.proofs.{Common.{◌≡◌, true, false, not, map, ap, sym, ◌∙◌, Ok}, lemmas.Result.{err_from_is_err_and}}
 use Rattle.civil_base.specs.DateTimes.{instant}
-use Rattle.zone_replies.specs.DueLaws.{moved}
-use Rattle.zone_replies.specs.Faults.{behind, each_due}
-use Rattle.zone_replies.specs.Instants.{is_untold, line_due}
-use Rattle.zone_displays.specs.Days.{is_on}
-use Rattle.zone_displays.specs.Rings.{counts, lines_due, rings_at, time_on}
-use Rattle.zone_displays.proofs.RungLemmas.{not_on, not_told, quiet, some_rings, told}
-use Rattle.zone_words.specs.TaskShown.{alarm_shown}
+use Rattle.zone_replies.specs.{DueLaws.{moved}, Faults.{behind, each_due}, Instants.{is_untold, line_due}}
+use Rattle.zone_displays.{specs.Days.{is_on}, specs.Rings.{counts, lines_due, rings_at, time_on}, proofs.RungLemmas.{not_on, not_told, quiet, some_rings, told}}
 use Rattle.zone_displays.proofs.lines.add_day.Goals as goal
+use Rattle.zone_words.specs.TaskShown.{alarm_shown}
 
 pub returns-then-not-is_on-clause-ok : goal.returns-then-not-is_on-clause-ok
 returns-then-not-is_on-clause-ok g c =

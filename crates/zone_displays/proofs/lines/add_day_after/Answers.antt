@@ -1,9 +1,7 @@
 use Rattle.std.proofs.Common.{ap, sym, ◌∙◌}
-use Rattle.zone_displays.specs.Days.{day_after, is_dated, step_of}
-use Rattle.zone_displays.specs.Rings.{lines_due}
-use Rattle.zone_displays.proofs.RungLemmas.{not_dated}
-use Rattle.zone_words.specs.TaskShown.{alarm_shown}
+use Rattle.zone_displays.{specs.Days.{day_after, is_dated, step_of}, specs.Rings.{lines_due}, proofs.RungLemmas.{not_dated}}
 use Rattle.zone_displays.proofs.lines.add_day_after.Goals as goal
+use Rattle.zone_words.specs.TaskShown.{alarm_shown}
 
 pub returns-in-None-clause-err : goal.returns-in-None-clause-err
 returns-in-None-clause-err g c =

@@ -1,11 +1,8 @@
-use Rattle.std.proofs.Common.{◌≡◌, ◌+◌, ◌-◌, ◌<◌, ◌≤◌, ap, sym, ◌∙◌, arith}
-use Rattle.std.proofs.lemmas.Result.{err_from_is_err_and}
+use Rattle.std.proofs.{Common.{◌≡◌, ◌+◌, ◌-◌, ◌<◌, ◌≤◌, ap, sym, ◌∙◌, arith}, lemmas.Result.{err_from_is_err_and}}
 use Rattle.zone_replies.specs.Faults.{behind}
-use Rattle.zone_displays.specs.Days.{count_between, days_between, last_of, step_of}
-use Rattle.zone_displays.specs.Rings.{lines_on}
-use Rattle.zone_displays.proofs.RungLemmas.{loop_end, loop_fault, loop_full, loop_more, rungs}
-use Rattle.zone_words.specs.TaskShown.{alarm_shown}
+use Rattle.zone_displays.{specs.Days.{count_between, days_between, last_of, step_of}, specs.Rings.{lines_on}, proofs.RungLemmas.{loop_end, loop_fault, loop_full, loop_more, rungs}}
 use Rattle.zone_displays.proofs.lines.add_days.Goals as goal
+use Rattle.zone_words.specs.TaskShown.{alarm_shown}
 
 pub loop-past-init : goal.loop-past-init
 unfolding days_between

@@ -1,10 +1,8 @@
 use Rattle.std.proofs.Common.{◌≡◌, ◌-◌}
 use Rattle.zone_replies.specs.Faults.{behind}
-use Rattle.zone_displays.specs.Days.{count_between, last_of, step_of}
-use Rattle.zone_displays.specs.Rings.{lines_on, rings_due}
-use Rattle.zone_displays.proofs.RungLemmas.{rungs}
-use Rattle.zone_words.specs.TaskShown.{alarm_shown}
+use Rattle.zone_displays.{specs.Days.{count_between, last_of, step_of}, specs.Rings.{lines_on, rings_due}, proofs.RungLemmas.{rungs}}
 use Rattle.zone_displays.proofs.lines.add_days.Given as goal
+use Rattle.zone_words.specs.TaskShown.{alarm_shown}
 
 abbrev pub invariant-loop-past : goal.invariant-loop-past
 invariant-loop-past g l =

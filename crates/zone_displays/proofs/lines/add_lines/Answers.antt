@@ -1,9 +1,6 @@
-use Rattle.std.proofs.Common.{ℤ}
-use Rattle.std.proofs.lemmas.Result.{err_from_is_err_and}
+use Rattle.std.proofs.{Common.{ℤ}, lemmas.Result.{err_from_is_err_and}}
 use Rattle.civil_base.specs.DateTimes.{instant}
-use Rattle.zone_replies.specs.DueLaws.{loop_end, loop_fault, loop_more}
-use Rattle.zone_replies.specs.Faults.{Due}
-use Rattle.zone_replies.specs.Instants.{line_due}
+use Rattle.zone_replies.specs.{DueLaws.{loop_end, loop_fault, loop_more}, Faults.{Due}, Instants.{line_due}}
 use Rattle.zone_displays.proofs.lines.add_lines.Goals as goal
 
 pub returns-in_err-add_at_line-clause-err : goal.returns-in_err-add_at_line-clause-err

@@ -1,7 +1,6 @@
 use Rattle.std.proofs.Common.{◌≡◌, drop, map}
 use Rattle.civil_base.specs.DateTimes.{instant}
-use Rattle.zone_replies.specs.Faults.{behind, each_due}
-use Rattle.zone_replies.specs.Instants.{line_due}
+use Rattle.zone_replies.specs.{Faults.{behind, each_due}, Instants.{line_due}}
 use Rattle.zone_displays.proofs.lines.add_lines.Given as goal
 
 abbrev pub invariant-loop-date : goal.invariant-loop-date

@@ -1,9 +1,6 @@
-use Rattle.std.proofs.Common.{◌≡◌, ◌++◌, to_z, of_z, to_z-of_z, w64, ap, ◌∙◌}
-use Rattle.std.specs.Prelude.{codes}
+use Rattle.std.{proofs.Common.{◌≡◌, ◌++◌, to_z, of_z, to_z-of_z, w64, ap, ◌∙◌}, specs.Prelude.{codes}}
 use Rattle.zone_replies.specs.Skips.{after_of}
-use Rattle.zone_displays.specs.Axes.{x_of, y_of}
-use Rattle.zone_displays.specs.Lines.{circle_text, place_text}
-use Rattle.zone_displays.proofs.RangeLemmas.{three}
+use Rattle.zone_displays.{specs.Axes.{x_of, y_of}, specs.Lines.{circle_text, place_text}, proofs.RangeLemmas.{three}}
 use Rattle.zone_displays.proofs.mark.add_circle.Goals as goal
 
 pub returns : goal.returns

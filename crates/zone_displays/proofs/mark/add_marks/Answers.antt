@@ -1,8 +1,6 @@
-use Rattle.std.proofs.Common.{ℤ, pos, slice_index_or, to_z, of_z, to_z-of_z, FitsSigned, w64, rules, ap, map, map-id, ◌∙◌}
-use Rattle.std.proofs.lemmas.Result.{err_from_is_err_and}
+use Rattle.std.proofs.{Common.{ℤ, pos, slice_index_or, to_z, of_z, to_z-of_z, FitsSigned, w64, rules, ap, map, map-id, ◌∙◌}, lemmas.Result.{err_from_is_err_and}}
 use Rattle.zone_replies.specs.Faults.{Due, behind, each_due}
-use Rattle.zone_displays.specs.Lines.{mark_due}
-use Rattle.zone_displays.proofs.DueLemmas.{any_number, loop_end, loop_fault, loop_more}
+use Rattle.zone_displays.{specs.Lines.{mark_due}, proofs.DueLemmas.{any_number, loop_end, loop_fault, loop_more}}
 use Rattle.zone_displays.proofs.mark.add_marks.Goals as goal
 
 pub loop-change-init : goal.loop-change-init

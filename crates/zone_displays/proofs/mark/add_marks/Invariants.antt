@@ -1,7 +1,6 @@
 use Rattle.std.proofs.Common.{◌≡◌, drop, map}
 use Rattle.zone_replies.specs.Faults.{behind, each_due}
-use Rattle.zone_displays.specs.Frames.{each_numbered}
-use Rattle.zone_displays.specs.Lines.{mark_due}
+use Rattle.zone_displays.specs.{Frames.{each_numbered}, Lines.{mark_due}}
 use Rattle.zone_displays.proofs.mark.add_marks.Given as goal
 
 abbrev pub invariant-loop-change : goal.invariant-loop-change

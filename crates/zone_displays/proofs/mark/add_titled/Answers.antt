@@ -1,7 +1,6 @@
 use Rattle.std.proofs.Common.{to_z-of_z, ap, ◌∙◌}
 use Rattle.zone_replies.specs.Faults.{behind}
-use Rattle.zone_displays.specs.Lines.{titled_due}
-use Rattle.zone_displays.proofs.DueLemmas.{framed_at}
+use Rattle.zone_displays.{specs.Lines.{titled_due}, proofs.DueLemmas.{framed_at}}
 use Rattle.zone_displays.proofs.mark.add_titled.Goals as goal
 
 pub returns-clause-ok : goal.returns-clause-ok

@@ -1,10 +1,5 @@
-use Rattle.std.proofs.Common.{◌++◌, List, map, ap, ◌∙◌}
-use Rattle.std.proofs.lemmas.List.{take_all}
-use Rattle.std.specs.List.{filter}
-use Rattle.zone_displays.specs.Near.{is_alike, near_names}
-use Rattle.zone_displays.specs.Same.{same}
-use Rattle.zone_displays.specs.SeenNames.{NameSeen, name_seen}
-use Rattle.zone_displays.proofs.NameLemmas.{first_of}
+use Rattle.std.{proofs.Common.{◌++◌, List, map, ap, ◌∙◌}, proofs.lemmas.List.{take_all}, specs.List.{filter}}
+use Rattle.zone_displays.{specs.Near.{is_alike, near_names}, specs.Same.{same}, specs.SeenNames.{NameSeen, name_seen}, proofs.NameLemmas.{first_of}}
 use Rattle.zone_displays.proofs.near.near_names.Goals as goal
 
 pub returns : goal.returns

@@ -1,8 +1,5 @@
-use Rattle.std.proofs.Common.{◌≡◌, map, take}
-use Rattle.std.specs.List.{filter}
-use Rattle.zone_displays.specs.Near.{is_alike}
-use Rattle.zone_displays.specs.Same.{same}
-use Rattle.zone_displays.specs.SeenNames.{name_seen}
+use Rattle.std.{proofs.Common.{◌≡◌, map, take}, specs.List.{filter}}
+use Rattle.zone_displays.specs.{Near.{is_alike}, Same.{same}, SeenNames.{name_seen}}
 use Rattle.zone_displays.proofs.near.near_names.Given as goal
 
 abbrev pub invariant-loop-entry : goal.invariant-loop-entry

@@ -1,8 +1,5 @@
-use Rattle.std.proofs.Common.{ℕ, List, []}
-use Rattle.std.specs.Prelude.{None, option_map}
-use Rattle.zone_displays.specs.SeenNames.{name_seen, NameSeen}
-use Rattle.zone_displays.specs.Texts.{line_text}
-use Rattle.zone_displays.proofs.RangeLemmas.{all_shown, shown_more}
+use Rattle.std.{proofs.Common.{ℕ, List, []}, specs.Prelude.{None, option_map}}
+use Rattle.zone_displays.{specs.SeenNames.{name_seen, NameSeen}, specs.Texts.{line_text}, proofs.RangeLemmas.{all_shown, shown_more}}
 use Rattle.zone_displays.proofs.text.add_lines.Goals as goal
 
 pub loop-entry-preserved : goal.loop-entry-preserved

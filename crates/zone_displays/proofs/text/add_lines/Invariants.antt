@@ -1,8 +1,5 @@
-use Rattle.std.proofs.Common.{◌≡◌, ◌++◌, map, take}
-use Rattle.std.specs.List.{flat_map}
-use Rattle.std.specs.Prelude.{option_map}
-use Rattle.zone_displays.specs.SeenNames.{name_seen}
-use Rattle.zone_displays.specs.Texts.{line_text}
+use Rattle.std.{proofs.Common.{◌≡◌, ◌++◌, map, take}, specs.List.{flat_map}, specs.Prelude.{option_map}}
+use Rattle.zone_displays.specs.{SeenNames.{name_seen}, Texts.{line_text}}
 use Rattle.zone_displays.proofs.text.add_lines.Given as goal
 
 abbrev pub invariant-loop-entry : goal.invariant-loop-entry

@@ -1,5 +1,4 @@
-use Rattle.std.proofs.Common.{◌≡◌, ℕ, ◌+◌, ◌-◌, ◌<◌, List, [], ◌++◌, length, map, drop, slice_index_or, Bor, append_assoc, length-drop, ap, sym, ◌∙◌, arith}
-use Rattle.std.proofs.lemmas.List.{at_drop_more, length-map}
+use Rattle.std.proofs.{Common.{◌≡◌, ℕ, ◌+◌, ◌-◌, ◌<◌, List, [], ◌++◌, length, map, drop, slice_index_or, Bor, append_assoc, length-drop, ap, sym, ◌∙◌, arith}, lemmas.List.{at_drop_more, length-map}}
 use Rattle.zone_displays.specs.Unknown.{choices_text, separator}
 use Rattle.zone_displays.proofs.unknown.add_choices.Goals as goal
 

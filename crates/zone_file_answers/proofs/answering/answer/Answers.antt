@@ -1,12 +1,7 @@
 use Rattle.std.proofs.Common.{◌++◌, cond, None, Some, sym, ap, ◌∙◌}
-use Rattle.tz_tzif.specs.InForce.{told_total_at}
-use Rattle.tz_tzif.specs.Zones.{value_of, says_of}
-use Rattle.zone_answers.specs.Asked.{asked}
-use Rattle.zone_answers.specs.Due.{answer_text, shown_at}
-use Rattle.zone_file_answers.specs.Faults.{range}
-use Rattle.zone_answers.specs.AskedLaws.{asks}
-use Rattle.zone_file_answers.specs.Requests.{request_of}
-use Rattle.zone_file_answers.proofs.RefusalLemmas.{not_text_refused, bad_request_refused, refusal_is, line_is}
+use Rattle.tz_tzif.specs.{InForce.{told_total_at}, Zones.{value_of, says_of}}
+use Rattle.zone_answers.specs.{Asked.{asked}, Due.{answer_text, shown_at}, AskedLaws.{asks}}
+use Rattle.zone_file_answers.{specs.Faults.{range}, specs.Requests.{request_of}, proofs.RefusalLemmas.{not_text_refused, bad_request_refused, refusal_is, line_is}}
 use Rattle.zone_file_answers.proofs.answering.answer.Goals as goal
 
 pub returns-in_default-clause-err : goal.returns-in_default-clause-err

@@ -1,10 +1,7 @@
 use Rattle.std.proofs.Common.{◌≡◌, ◌+◌, ◌++◌, length, map}
-use Rattle.tz_tzif.specs.InForce.{told_total_at}
-use Rattle.tz_tzif.specs.Zones.{value_of, says_of}
-use Rattle.zone_source.specs.Lines.{lines_of}
-use Rattle.zone_source.specs.LinesLeft.{lines_left}
-use Rattle.zone_file_answers.specs.Due.{answer_line}
-use Rattle.zone_file_answers.specs.Faults.{first_refused}
+use Rattle.tz_tzif.specs.{InForce.{told_total_at}, Zones.{value_of, says_of}}
+use Rattle.zone_source.specs.{Lines.{lines_of}, LinesLeft.{lines_left}}
+use Rattle.zone_file_answers.specs.{Due.{answer_line}, Faults.{first_refused}}
 use Rattle.zone_file_answers.proofs.answering.answer_all.Given as goal
 
 abbrev pub invariant-loop-line : goal.invariant-loop-line

@@ -1,10 +1,7 @@
 use Rattle.std.proofs.Common.{Err, ap, subst}
-use Rattle.tz_tzif.specs.Faults.{IsTzifFault}
-use Rattle.tz_tzif.specs.InForce.{told_total_at}
-use Rattle.tz_tzif.specs.Zones.{says_of, value_of}
+use Rattle.tz_tzif.specs.{Faults.{IsTzifFault}, InForce.{told_total_at}, Zones.{says_of, value_of}}
 use Rattle.tz_tzif.specs.declared.fault.TzifFault.TheVariants as tzif
-use Rattle.zone_tzif_core.specs.Denotes.{Says}
-use Rattle.zone_tzif_core.specs.ZoneFiles.{ReadsFile, zone_seen}
+use Rattle.zone_tzif_core.specs.{Denotes.{Says}, ZoneFiles.{ReadsFile, zone_seen}}
 use Rattle.zone_file_answers.proofs.ResponseLemmas.{found_over, no_file, not_refused}
 use Rattle.zone_file_answers.proofs.answering.answers.Goals as goal
 

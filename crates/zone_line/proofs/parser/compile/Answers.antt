@@ -1,6 +1,5 @@
 use Rattle.std.proofs.Common.{subst, sym}
-use Rattle.zone_line.specs.Patterns.{IsBuiltFrom}
-use Rattle.zone_line.proofs.PatternLemmas.{built}
+use Rattle.zone_line.{specs.Patterns.{IsBuiltFrom}, proofs.PatternLemmas.{built}}
 use Rattle.zone_line.proofs.parser.compile.Goals as goal
 
 pub returns : goal.returns

@@ -1,7 +1,6 @@
 use Rattle.std.proofs.Common.{ap, ◌∙◌}
 use Rattle.regex.specs.Strings.{captures_haystack}
-use Rattle.zone_line.specs.Patterns.{part_of}
-use Rattle.zone_line.proofs.PatternLemmas.{part_is}
+use Rattle.zone_line.{specs.Patterns.{part_of}, proofs.PatternLemmas.{part_is}}
 use Rattle.zone_line.proofs.parser.part.Goals as goal
 
 pub returns-in_err-name : goal.returns-in_err-name

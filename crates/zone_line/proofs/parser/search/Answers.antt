@@ -1,6 +1,6 @@
 use Rattle.zone_line.proofs.PatternLemmas.{searched}
-use Rattle.std.proofs.Common.{rules}
 use Rattle.zone_line.proofs.parser.search.Goals as goal
+use Rattle.std.proofs.Common.{rules}
 
 pub returns : goal.returns
 returns c =

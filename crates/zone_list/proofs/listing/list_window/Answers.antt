@@ -1,10 +1,6 @@
-use Rattle.std.proofs.Common.{◌≡◌, ◌∙◌, ◌+◌, Err, ap, arith, map, refl, sym, ◌++◌}
-use Rattle.std.proofs.lemmas.Result.{IfErr-at_err}
-use Rattle.zone_list.specs.Rows.{row}
-use Rattle.zone_list.specs.Windows.{window}
-use Rattle.zone_list.proofs.StepLemmas.{left, one_listed, none_listed, one_dated, none_dated, undated}
+use Rattle.std.proofs.{Common.{◌≡◌, ◌∙◌, ◌+◌, Err, ap, arith, map, refl, sym, ◌++◌}, lemmas.Result.{IfErr-at_err}}
+use Rattle.zone_list.{specs.Rows.{row}, specs.Windows.{window}, proofs.StepLemmas.{left, one_listed, none_listed, one_dated, none_dated, undated}, proofs.listing.list_window.Goals.{then-is_within+in-Ok, else-is_within}}
 use Rattle.zone_list.proofs.listing.list_window.Goals as goal
-use Rattle.zone_list.proofs.listing.list_window.Goals.{then-is_within+in-Ok, else-is_within}
 
 pub loop-place-init : goal.loop-place-init
 unfolding window

@@ -1,9 +1,6 @@
 use Rattle.std.proofs.Common.{◌≡◌, ℕ, ◌++◌, List, map, ℤ}
 use Rattle.tz_zone.specs.declared.set.FixedTimespanSet.{FixedTimespanSet}
-use Rattle.zone_list.specs.Ranges.{all_have_dates}
-use Rattle.zone_list.specs.Rows.{row}
-use Rattle.zone_list.specs.Windows.{window}
-use Rattle.zone_list.proofs.StepLemmas.{left}
+use Rattle.zone_list.{specs.Ranges.{all_have_dates}, specs.Rows.{row}, specs.Windows.{window}, proofs.StepLemmas.{left}}
 use Rattle.zone_list.proofs.listing.list_window.Given as goal
 
 -- what is listed and the rows of what is left are all rows; whether all have dates is whether those that are left have

@@ -1,6 +1,5 @@
 use Rattle.std.proofs.Common.{◌∙◌, FitsSigned, to_z-of_z, w64, rules}
-use Rattle.zone_list.specs.Windows.{entry_at}
-use Rattle.zone_list.proofs.StepLemmas.{total_is, dates_are, shown_as}
+use Rattle.zone_list.{specs.Windows.{entry_at}, proofs.StepLemmas.{total_is, dates_are, shown_as}}
 use Rattle.zone_list.proofs.row.date_time_at.Goals as goal
 
 pub returns-in-Ok-clause-dates : goal.returns-in-Ok-clause-dates

@@ -1,5 +1,4 @@
-use Rattle.std.proofs.Common.{◌∙◌, w64}
-use Rattle.std.proofs.lemmas.Int.{to_z-of_z}
+use Rattle.std.proofs.{Common.{◌∙◌, w64}, lemmas.Int.{to_z-of_z}}
 use Rattle.zone_list.proofs.WidthLemmas.{number_width}
 use Rattle.zone_list.proofs.widths.time_width.Goals as goal
 

@@ -1,5 +1,4 @@
-use Rattle.zone_moments.proofs.ExactLemmas.{one_local, one_asked}
-use Rattle.zone_moments.proofs.StampLemmas.{one_stamp}
+use Rattle.zone_moments.proofs.{ExactLemmas.{one_local, one_asked}, StampLemmas.{one_stamp}}
 use Rattle.zone_moments.proofs.laws.one_reading.Goals as goal
 
 pub returns : goal.returns

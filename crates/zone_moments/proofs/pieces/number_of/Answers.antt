@@ -1,6 +1,5 @@
 use Rattle.std.proofs.Common.{◌∙◌, ap, arith, ◌^◌, ◌+◌, drop, min}
-use Rattle.zone_moments.specs.Numbers.{number_after}
-use Rattle.zone_moments.proofs.NumberLemmas.{step}
+use Rattle.zone_moments.{specs.Numbers.{number_after}, proofs.NumberLemmas.{step}}
 use Rattle.zone_moments.proofs.pieces.number_of.Goals as goal
 
 pub loop-digit-preserved : goal.loop-digit-preserved

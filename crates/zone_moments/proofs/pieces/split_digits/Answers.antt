@@ -1,5 +1,4 @@
-use Rattle.std.proofs.lemmas.List.Sums.{prefix_len-le-length}
-use Rattle.std.specs.Char.{is_ascii_digit}
+use Rattle.std.{proofs.lemmas.List.Sums.{prefix_len-le-length}, specs.Char.{is_ascii_digit}}
 use Rattle.zone_moments.proofs.NumberLemmas.{run_passes}
 use Rattle.zone_moments.proofs.pieces.split_digits.Goals as goal
 

@@ -1,6 +1,5 @@
 use Rattle.std.proofs.Common.{◌∙◌, ap}
-use Rattle.zone_moments.specs.Readings.{local_in}
-use Rattle.zone_moments.proofs.ExactLemmas.{local_exact}
+use Rattle.zone_moments.{specs.Readings.{local_in}, proofs.ExactLemmas.{local_exact}}
 use Rattle.zone_moments.proofs.read.read_local.Goals as goal
 
 pub returns-clause-exact : goal.returns-clause-exact

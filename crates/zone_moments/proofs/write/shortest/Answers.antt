@@ -1,6 +1,5 @@
 use Rattle.std.proofs.Common.{arith}
-use Rattle.zone_moments.proofs.WrittenLemmas.{kept_other, kept_zero}
-use Rattle.zone_moments.proofs.write.shortest.Goals.{then-digit-ne48, else-digit-ne48}
+use Rattle.zone_moments.proofs.{WrittenLemmas.{kept_other, kept_zero}, write.shortest.Goals.{then-digit-ne48, else-digit-ne48}}
 use Rattle.zone_moments.proofs.write.shortest.Goals as goal
 
 pub loop-place-preserved : goal.loop-place-preserved

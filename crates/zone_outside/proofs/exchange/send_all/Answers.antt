@@ -1,7 +1,5 @@
-use Rattle.std.proofs.Common.{Ok, Err, OnErr, arith}
-use Rattle.std.proofs.lemmas.List.{take_rest}
-use Rattle.zone_outside.specs.Exchanges.{WrotePart}
-use Rattle.zone_outside.proofs.ExchangeLemmas.{wrote_next, wrote_part}
+use Rattle.std.proofs.{Common.{Ok, Err, OnErr, arith}, lemmas.List.{take_rest}}
+use Rattle.zone_outside.{specs.Exchanges.{WrotePart}, proofs.ExchangeLemmas.{wrote_next, wrote_part}}
 use Rattle.zone_outside.proofs.exchange.send_all.Goals as goal
 
 pub returns-in_err-at-clause-err : goal.returns-in_err-at-clause-err

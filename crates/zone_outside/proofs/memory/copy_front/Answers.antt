@@ -1,5 +1,4 @@
-use Rattle.std.proofs.Common.{arith}
-use Rattle.std.proofs.lemmas.Grind.{common_steps}
+use Rattle.std.proofs.{Common.{arith}, lemmas.Grind.{common_steps}}
 use Rattle.zone_outside.proofs.Loops.{consumed}
 use Rattle.zone_outside.proofs.memory.copy_front.Goals as goal
 

@@ -1,5 +1,4 @@
-use Rattle.std.proofs.Common.{sym, arith}
-use Rattle.std.proofs.lemmas.List.{take_all, drop_all, length-take-le, take_rest}
+use Rattle.std.proofs.{Common.{sym, arith}, lemmas.List.{take_all, drop_all, length-take-le, take_rest}}
 use Rattle.zone_pieces.proofs.fronts.cut_front.Goals as goal
 
 pub slice_bounds-result-end-else-line-le-ROOM : goal.slice_bounds-result-end-else-line-le-ROOM

@@ -1,9 +1,5 @@
-use Rattle.std.proofs.Common.{arith, ◌≡◌, ◌∙◌, ◌<◌, [], ◌∷◌, ◌++◌, length, take, ap, append_assoc}
-use Rattle.std.proofs.lemmas.Bool.Decides.{nat_tests}
-use Rattle.std.proofs.lemmas.Grind.{common_steps}
-use Rattle.zone_pieces.specs.Fronts.{passed, closed_line}
-use Rattle.zone_pieces.proofs.FrontLemmas.{ended}
-use Rattle.zone_pieces.specs.Room.{room}
+use Rattle.std.proofs.{Common.{arith, ◌≡◌, ◌∙◌, ◌<◌, [], ◌∷◌, ◌++◌, length, take, ap, append_assoc}, lemmas.Bool.Decides.{nat_tests}, lemmas.Grind.{common_steps}}
+use Rattle.zone_pieces.{specs.Fronts.{passed, closed_line}, proofs.FrontLemmas.{ended}, specs.Room.{room}}
 use Rattle.zone_pieces.proofs.fronts.end_line.Goals as goal
 
 pub returns-clause-text : goal.returns-clause-text

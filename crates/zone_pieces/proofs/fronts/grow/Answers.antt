@@ -1,8 +1,5 @@
-use Rattle.std.proofs.Common.{arith, ◌≡◌, ◌∙◌, ◌-◌, ◌++◌, length, take, drop, sym, ap}
-use Rattle.std.proofs.Common.{append_assoc}
-use Rattle.std.proofs.lemmas.List.{take_rest}
-use Rattle.zone_pieces.proofs.FrontLemmas.{grown}
-use Rattle.zone_pieces.specs.Room.{room}
+use Rattle.std.proofs.{Common.{arith, ◌≡◌, ◌∙◌, ◌-◌, ◌++◌, length, take, drop, sym, ap}, Common.{append_assoc}, lemmas.List.{take_rest}}
+use Rattle.zone_pieces.{proofs.FrontLemmas.{grown}, specs.Room.{room}}
 use Rattle.zone_pieces.proofs.fronts.grow.Goals as goal
 
 pub returns-clause-text : goal.returns-clause-text

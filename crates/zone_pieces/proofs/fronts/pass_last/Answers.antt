@@ -1,8 +1,5 @@
-use Rattle.std.proofs.Common.{arith, ◌≡◌, ◌∙◌, ◌++◌, ◌<◌, length, ap, sym}
-use Rattle.std.proofs.lemmas.Bool.Decides.{nat_tests}
-use Rattle.std.proofs.lemmas.Grind.{common_steps}
-use Rattle.zone_pieces.proofs.FrontLemmas.{closed_short}
-use Rattle.zone_pieces.specs.Room.{room}
+use Rattle.std.proofs.{Common.{arith, ◌≡◌, ◌∙◌, ◌++◌, ◌<◌, length, ap, sym}, lemmas.Bool.Decides.{nat_tests}, lemmas.Grind.{common_steps}}
+use Rattle.zone_pieces.{proofs.FrontLemmas.{closed_short}, specs.Room.{room}}
 use Rattle.zone_pieces.proofs.fronts.pass_last.Goals as goal
 
 pub returns-clause-text : goal.returns-clause-text

@@ -1,7 +1,5 @@
 use Rattle.std.proofs.Common.{◌∙◌, ◌++◌, refl, ap}
-use Rattle.zone_pieces.proofs.FrontLemmas.{passes_none, passes_line, passes_all}
-use Rattle.zone_pieces.specs.Fronts.{passed, passed_end}
-use Rattle.zone_pieces.specs.Room.{room}
+use Rattle.zone_pieces.{proofs.FrontLemmas.{passes_none, passes_line, passes_all}, specs.Fronts.{passed, passed_end}, specs.Room.{room}}
 use Rattle.zone_pieces.proofs.fronts.pass_piece.Goals as goal
 
 pub lines-init : goal.lines-init

@@ -1,7 +1,4 @@
-use Rattle.std.proofs.Common.{◌≡◌, refl, sym, ap, ◌∙◌, arith, Bool, true, false, cond, not, ℕ, List, [], ◌∷◌, ◌++◌, append_assoc, append-nil}
-use Rattle.std.proofs.lemmas.Bool.{and_parts}
-use Rattle.std.proofs.lemmas.Bool.Decides.{nat_tests}
-use Rattle.std.specs.List.{flat_map, list_all}
+use Rattle.std.{proofs.Common.{◌≡◌, refl, sym, ap, ◌∙◌, arith, Bool, true, false, cond, not, ℕ, List, [], ◌∷◌, ◌++◌, append_assoc, append-nil}, proofs.lemmas.Bool.{and_parts}, proofs.lemmas.Bool.Decides.{nat_tests}, specs.List.{flat_map, list_all}}
 use Rattle.zone_pieces.specs.Lines.{is_line_feed, lines_behind, open_behind}
 use Rattle.zone_pieces.proofs.laws.lines_are_the_input.Goals as goal
 

@@ -1,6 +1,5 @@
 use Rattle.std.proofs.Common.{[]}
-use Rattle.zone_pieces.proofs.LineLemmas.{lines_join, answers_behind}
-use Rattle.zone_pieces.specs.Replies.{longest}
+use Rattle.zone_pieces.{proofs.LineLemmas.{lines_join, answers_behind}, specs.Replies.{longest}}
 use Rattle.zone_pieces.proofs.laws.pieces_join.Goals as goal
 
 pub returns-clause-lines : goal.returns-clause-lines

@@ -1,5 +1,4 @@
-use Rattle.std.proofs.Common.{not}
-use Rattle.std.proofs.lemmas.List.Sums.{prefix_len-le-length}
+use Rattle.std.proofs.{Common.{not}, lemmas.List.Sums.{prefix_len-le-length}}
 use Rattle.zone_pieces.specs.Logs.{is_blank}
 use Rattle.zone_pieces.proofs.logs.after_word.Goals as goal
 

@@ -1,6 +1,5 @@
 use Rattle.std.proofs.Common.{◌≡◌, ◌∙◌, ◌++◌, ap, subst, OnOk, IfOk, Bool}
-use Rattle.zone_pieces.proofs.LineLemmas.{answer_short, fails_short}
-use Rattle.zone_pieces.specs.Replies.{answer, fails, longest}
+use Rattle.zone_pieces.{proofs.LineLemmas.{answer_short, fails_short}, specs.Replies.{answer, fails, longest}}
 use Rattle.zone_pieces.proofs.requests.answer_held.Goals as goal
 
 pub returns-clause-answer : goal.returns-clause-answer

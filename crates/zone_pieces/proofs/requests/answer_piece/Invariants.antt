@@ -1,6 +1,5 @@
 use Rattle.std.proofs.Common.{◌≡◌, ◌||◌, ◌++◌, length}
-use Rattle.zone_pieces.specs.Lines.{lines_behind, open_behind}
-use Rattle.zone_pieces.specs.Replies.{answers, any_fails}
+use Rattle.zone_pieces.specs.{Lines.{lines_behind, open_behind}, Replies.{answers, any_fails}}
 use Rattle.zone_pieces.proofs.requests.answer_piece.Given as goal
 
 abbrev pub invariant-lines : goal.invariant-lines

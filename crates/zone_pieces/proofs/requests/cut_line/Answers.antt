@@ -1,5 +1,4 @@
-use Rattle.std.proofs.Common.{◌+◌}
-use Rattle.std.proofs.lemmas.List.{take_rest}
+use Rattle.std.proofs.{Common.{◌+◌}, lemmas.List.{take_rest}}
 use Rattle.zone_pieces.proofs.CutLemmas.{found_at, not_found}
 use Rattle.zone_pieces.proofs.requests.cut_line.Goals as goal
 

@@ -1,6 +1,4 @@
-use Rattle.zone_pieces.specs.Fronts.{fronts_begin_empty, fronts_rewritten}
-use Rattle.zone_pieces.specs.Logs.{log_front}
-use Rattle.zone_pieces.proofs.RunLemmas.{ends_unbegun}
+use Rattle.zone_pieces.{specs.Fronts.{fronts_begin_empty, fronts_rewritten}, specs.Logs.{log_front}, proofs.RunLemmas.{ends_unbegun}}
 use Rattle.zone_pieces.proofs.running.run_log.Goals as goal
 
 pub returns-in_default : goal.returns-in_default

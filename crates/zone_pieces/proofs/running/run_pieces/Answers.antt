@@ -1,7 +1,5 @@
 use Rattle.std.proofs.Common.{refl, sym, ap, ◌∙◌, subst, arith, ◌<◌, ◌≤◌, take, length}
-use Rattle.zone_pieces.specs.Filters.{Made}
-use Rattle.zone_pieces.specs.Runs.{Finishes, Stops, Steps}
-use Rattle.zone_pieces.proofs.RunLemmas.{starts, finishes, stops, steps}
+use Rattle.zone_pieces.{specs.Filters.{Made}, specs.Runs.{Finishes, Stops, Steps}, proofs.RunLemmas.{starts, finishes, stops, steps}}
 use Rattle.zone_pieces.proofs.running.run_pieces.Goals as goal
 
 pub reads-init : goal.reads-init

@@ -1,5 +1,4 @@
-use Rattle.zone_pieces.specs.Filters.{begins_empty, replied}
-use Rattle.zone_pieces.proofs.RunLemmas.{ends_unbegun}
+use Rattle.zone_pieces.{specs.Filters.{begins_empty, replied}, proofs.RunLemmas.{ends_unbegun}}
 use Rattle.zone_pieces.proofs.running.run_stream.Goals as goal
 
 pub returns-in_default : goal.returns-in_default

@@ -1,5 +1,4 @@
-use Rattle.zone_plain.specs.MadeNameLaws.{one_name}
-use Rattle.zone_plain.specs.TableLaws.{new_name}
+use Rattle.zone_plain.specs.{MadeNameLaws.{one_name}, TableLaws.{new_name}}
 use Rattle.zone_plain.proofs.laws.made_names.Goals as goal
 
 pub returns : goal.returns

@@ -1,5 +1,4 @@
-use Rattle.std.proofs.Common.{sym, ap, ◌∙◌}
-use Rattle.std.specs.FinMap.{insert}
+use Rattle.std.{proofs.Common.{sym, ap, ◌∙◌}, specs.FinMap.{insert}}
 use Rattle.zone_plain.proofs.NameLemmas.{link_known, link_added}
 use Rattle.zone_plain.proofs.links.add_target.Goals as goal
 

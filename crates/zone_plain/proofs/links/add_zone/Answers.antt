@@ -1,6 +1,4 @@
-use Rattle.std.proofs.Common.{◌∙◌, ◌∷◌, [], ap, length, map, sym}
-use Rattle.std.proofs.lemmas.List.{map-append, length-map}
-use Rattle.std.specs.FinMap.{insert}
+use Rattle.std.{proofs.Common.{◌∙◌, ◌∷◌, [], ap, length, map, sym}, proofs.lemmas.List.{map-append, length-map}, specs.FinMap.{insert}}
 use Rattle.zone_plain.proofs.links.add_zone.Goals as goal
 
 pub returns-clause-names : goal.returns-clause-names

@@ -1,8 +1,6 @@
-use Rattle.std.proofs.Common.{◌≤◌, map, length, subst, arith}
-use Rattle.std.proofs.lemmas.List.{length-map, take_all}
+use Rattle.std.proofs.{Common.{◌≤◌, map, length, subst, arith}, lemmas.List.{length-map, take_all}}
 use Rattle.zone_values.specs.Values.{line_value}
-use Rattle.zone_plain.specs.Stands.{IsDeclared}
-use Rattle.zone_plain.proofs.NameLemmas.{one_line_more}
+use Rattle.zone_plain.{specs.Stands.{IsDeclared}, proofs.NameLemmas.{one_line_more}}
 use Rattle.zone_plain.proofs.links.declared_by.Goals as goal
 
 pub loop-line-preserved : goal.loop-line-preserved

@@ -1,6 +1,5 @@
 use Rattle.std.proofs.Common.{sym, ◌∙◌}
-use Rattle.zone_plain.proofs.LeadLemmas.{none_met, known_more, noted}
-use Rattle.zone_plain.specs.Stands.{names_of}
+use Rattle.zone_plain.{proofs.LeadLemmas.{none_met, known_more, noted}, specs.Stands.{names_of}}
 use Rattle.zone_plain.proofs.links.keep.Goals as goal
 
 pub returns-in-None : goal.returns-in-None

@@ -1,5 +1,4 @@
-use Rattle.std.proofs.Common.{◌∙◌, ◌∷◌, [], ap, map}
-use Rattle.std.proofs.lemmas.List.{map-append}
+use Rattle.std.proofs.{Common.{◌∙◌, ◌∷◌, [], ap, map}, lemmas.List.{map-append}}
 use Rattle.zone_values.specs.Values.{line_value}
 use Rattle.zone_plain.proofs.links.push.Goals as goal
 

@@ -1,12 +1,8 @@
-use Rattle.std.proofs.Common.{◌<◌, ◌≤◌, ◌∙◌, ◌≡◌, ◌+◌, ◌++◌, ◌∷◌, [], true, nat_lt, map, length, arith, sym, ap, take, get_or, subst}
-use Rattle.std.proofs.lemmas.List.{length-map}
+use Rattle.std.proofs.{Common.{◌<◌, ◌≤◌, ◌∙◌, ◌≡◌, ◌+◌, ◌++◌, ◌∷◌, [], true, nat_lt, map, length, arith, sym, ap, take, get_or, subst}, lemmas.List.{length-map}}
 use Rattle.zone_values.specs.Values.{line_value, space}
-use Rattle.zone_plain.specs.Settled.{settled, settled_line}
-use Rattle.zone_plain.specs.Stands.{IsAt}
-use Rattle.zone_plain_base.specs.Told.{IsRefused}
-use Rattle.zone_plain_base.specs.LineFaults.{IsFaultOf}
-use Rattle.zone_plain.proofs.StageLemmas.{Settling, line_at, still_small, large_now, nothing_settled, one_settled, refused_here, too_long_here, all_settled, size_is_small}
+use Rattle.zone_plain.{specs.Settled.{settled, settled_line}, specs.Stands.{IsAt}, proofs.StageLemmas.{Settling, line_at, still_small, large_now, nothing_settled, one_settled, refused_here, too_long_here, all_settled, size_is_small}}
 use Rattle.zone_plain.proofs.links.settle.Goals as goal
+use Rattle.zone_plain_base.specs.{Told.{IsRefused}, LineFaults.{IsFaultOf}}
 
 pub loop-place-init : goal.loop-place-init
 loop-place-init c =

@@ -2,8 +2,7 @@ use Rattle.std.proofs.Common.{List}
 use denote.Text.{Utf8}
 use denote.Shadow.{shadow}
 use Rattle.zone_values.specs.Values.{LineValue}
-use Rattle.zone_plain.specs.Stands.{IsDeclared}
-use Rattle.zone_plain.proofs.LeadLemmas.{AreSteps}
+use Rattle.zone_plain.{specs.Stands.{IsDeclared}, proofs.LeadLemmas.{AreSteps}}
 use Rattle.zone_plain.proofs.links.zone_place.Given as goal
 
 abbrev pub invariant-loop-step : goal.invariant-loop-step

@@ -1,7 +1,6 @@
 use Rattle.std.proofs.Common.{map}
 use Rattle.zone_values.specs.Values.{line_value}
-use Rattle.zone_plain.specs.ToldOffsets.{value_in}
-use Rattle.zone_plain.proofs.MadeLemmas.{HasMade}
+use Rattle.zone_plain.{specs.ToldOffsets.{value_in}, proofs.MadeLemmas.{HasMade}}
 use Rattle.zone_plain.proofs.made.add_rules.Given as goal
 
 abbrev pub invariant-loop-index : goal.invariant-loop-index

@@ -1,5 +1,4 @@
-use Rattle.std.proofs.Common.{◌≡◌, map, take, ◌++◌}
-use Rattle.std.specs.Prelude.{string_bytes}
+use Rattle.std.{proofs.Common.{◌≡◌, map, take, ◌++◌}, specs.Prelude.{string_bytes}}
 use Rattle.zone_plain.specs.MadeNames.{letter}
 use Rattle.zone_plain.proofs.made.put_letters.Given as goal
 

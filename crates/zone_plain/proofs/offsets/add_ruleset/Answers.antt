@@ -1,6 +1,5 @@
 use Rattle.std.proofs.Common.{◌∙◌, ap, refl, to_z, of_z, to_z-of_z, w64}
-use Rattle.zone_plain.specs.Shown.{pair_shown}
-use Rattle.zone_plain.proofs.MadeLemmas.{places_are, ruleset_named}
+use Rattle.zone_plain.{specs.Shown.{pair_shown}, proofs.MadeLemmas.{places_are, ruleset_named}}
 use Rattle.zone_plain.proofs.offsets.add_ruleset.Goals as goal
 
 pub returns : goal.returns

@@ -1,8 +1,5 @@
 use Rattle.std.proofs.Common.{◌∙◌, sym, ap, to_z-of_z}
-use Rattle.zone_plain.specs.OffsetTexts.{offset_text, has_text}
-use Rattle.zone_plain.specs.Made.{around_text}
-use Rattle.zone_plain.specs.Shown.{parts_shown}
-use Rattle.zone_plain.proofs.RuleLemmas.{total_unsaid, total_added}
+use Rattle.zone_plain.{specs.OffsetTexts.{offset_text, has_text}, specs.Made.{around_text}, specs.Shown.{parts_shown}, proofs.RuleLemmas.{total_unsaid, total_added}}
 use Rattle.zone_plain.proofs.offsets.add_with_total.Goals as goal
 
 pub returns-then-not-has_text : goal.returns-then-not-has_text

@@ -1,9 +1,6 @@
 use Rattle.std.proofs.Common.{◌∙◌, sym, ap, map}
 use Rattle.zone_values.specs.Values.{line_value}
-use Rattle.zone_plain.specs.MadeNames.{made_name}
-use Rattle.zone_plain.specs.Shown.{pair_shown}
-use Rattle.zone_plain.proofs.PairLemmas.{number_with}
-use Rattle.zone_plain.proofs.RuleLemmas.{known_rules, new_added}
+use Rattle.zone_plain.{specs.MadeNames.{made_name}, specs.Shown.{pair_shown}, proofs.PairLemmas.{number_with}, proofs.RuleLemmas.{known_rules, new_added}}
 use Rattle.zone_plain.proofs.offsets.name_pair.Goals as goal
 
 pub returns-then-not-is_new-clause-name : goal.returns-then-not-is_new-clause-name

@@ -1,7 +1,6 @@
 use Rattle.std.proofs.Common.{◌<◌, ◌≤◌, map, length, arith}
 use Rattle.zone_values.specs.Values.{line_value}
-use Rattle.zone_plain.proofs.MadeNameLemmas.{length_read}
-use Rattle.zone_plain.proofs.GroupLemmas.{nothing_grouped, one_grouped, all_grouped}
+use Rattle.zone_plain.proofs.{MadeNameLemmas.{length_read}, GroupLemmas.{nothing_grouped, one_grouped, all_grouped}}
 use Rattle.zone_plain.proofs.offsets.places_by_name.Goals as goal
 
 pub loop-place-init : goal.loop-place-init

@@ -1,8 +1,6 @@
 use Rattle.std.proofs.Common.{◌∙◌, ◌++◌, ◌<◌, ◌≤◌, map, length, sym, ap, subst, arith}
 use Rattle.zone_values.specs.Values.{line_value}
-use Rattle.zone_plain.specs.WrittenOut.{IsWrittenAs}
-use Rattle.zone_plain.proofs.MadeNameLemmas.{length_read}
-use Rattle.zone_plain.proofs.OffsetStageLemmas.{one_reached, unsaid_at, too_long_at, all_reached}
+use Rattle.zone_plain.{specs.WrittenOut.{IsWrittenAs}, proofs.MadeNameLemmas.{length_read}, proofs.OffsetStageLemmas.{one_reached, unsaid_at, too_long_at, all_reached}}
 use Rattle.zone_plain.proofs.offsets.write_lines.Goals as goal
 
 pub loop-place-preserved : goal.loop-place-preserved

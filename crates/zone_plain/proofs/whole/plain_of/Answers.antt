@@ -1,7 +1,6 @@
 use Rattle.std.proofs.Common.{◌<◌, ◌≤◌, ◌∙◌, ◌++◌, map, length, arith, sym, ap}
 use Rattle.zone_values.specs.Values.{line_value}
-use Rattle.zone_plain.specs.Plain.{if_short}
-use Rattle.zone_plain.proofs.PlainLemmas.{all_written, past_limit, in_limit}
+use Rattle.zone_plain.{specs.Plain.{if_short}, proofs.PlainLemmas.{all_written, past_limit, in_limit}}
 use Rattle.zone_plain.proofs.whole.plain_of.Goals as goal
 
 pub returns-then-as_slice-gt-LIMIT-clause-err : goal.returns-then-as_slice-gt-LIMIT-clause-err

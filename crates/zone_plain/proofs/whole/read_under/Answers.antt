@@ -1,7 +1,6 @@
 use Rattle.std.proofs.Common.{◌∙◌, ap, add-one, arith, length}
 use Rattle.zone_source.specs.LinesLeft.{lines_left}
-use Rattle.zone_plain.proofs.ReadingLemmas.{told_here, left_open, all_read}
-use Rattle.zone_plain.proofs.UnderLemmas.{nothing_under, one_under, no_mark}
+use Rattle.zone_plain.proofs.{ReadingLemmas.{told_here, left_open, all_read}, UnderLemmas.{nothing_under, one_under, no_mark}}
 use Rattle.zone_plain.proofs.whole.read_under.Goals as goal
 
 pub loop-line-init : goal.loop-line-init

@@ -1,5 +1,4 @@
-use Rattle.std.proofs.Common.{◌∙◌, ◌++◌, ◌∷◌, ◌<◌, [], sym, ap, map, take, length, arith}
-use Rattle.std.proofs.lemmas.List.{map-append, take_more}
+use Rattle.std.proofs.{Common.{◌∙◌, ◌++◌, ◌∷◌, ◌<◌, [], sym, ap, map, take, length, arith}, lemmas.List.{map-append, take_more}}
 use Rattle.zone_plain.proofs.whole.slices.Goals as goal
 
 pub loop-place-preserved : goal.loop-place-preserved

@@ -1,5 +1,4 @@
-use Rattle.zone_plain_base.specs.MarkLaws.{short_mark}
-use Rattle.zone_plain_base.specs.NameLaws.{stays_so, is_new, one_name, can_be_said, read_again}
+use Rattle.zone_plain_base.specs.{MarkLaws.{short_mark}, NameLaws.{stays_so, is_new, one_name, can_be_said, read_again}}
 use Rattle.zone_plain_base.proofs.laws.said_names.Goals as goal
 
 pub returns : goal.returns

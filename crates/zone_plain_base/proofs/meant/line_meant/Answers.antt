@@ -1,7 +1,5 @@
-use Rattle.std.proofs.Common.{sym, ◌∙◌, ap, not}
-use Rattle.std.specs.Str.{is_utf8}
-use Rattle.zone_plain_base.specs.SaidLaws.{no_text}
-use Rattle.zone_plain_base.proofs.MeantLemmas.{IsGood, bad_quotes, laid_no_text, told_meant}
+use Rattle.std.{proofs.Common.{sym, ◌∙◌, ap, not}, specs.Str.{is_utf8}}
+use Rattle.zone_plain_base.{specs.SaidLaws.{no_text}, proofs.MeantLemmas.{IsGood, bad_quotes, laid_no_text, told_meant}}
 use Rattle.zone_plain_base.proofs.meant.line_meant.Goals as goal
 
 pub returns-then-not-is_text : goal.returns-then-not-is_text

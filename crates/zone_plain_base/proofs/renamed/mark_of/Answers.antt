@@ -1,11 +1,6 @@
-use Rattle.std.proofs.Common.{◌∙◌, sym, ap, map}
-use Rattle.std.specs.Prelude.{flat_map}
-use Rattle.std.proofs.lemmas.List.{take_all}
-use Rattle.std.proofs.lemmas.List.Folds.{flat_map-map}
+use Rattle.std.{proofs.Common.{◌∙◌, sym, ap, map}, specs.Prelude.{flat_map}, proofs.lemmas.List.{take_all}, proofs.lemmas.List.Folds.{flat_map-map}}
 use Rattle.zone_values.specs.Values.{line_value}
-use Rattle.zone_plain_base.specs.Marks.{behind}
-use Rattle.zone_plain_base.specs.Renamed.{ruleset_of}
-use Rattle.zone_plain_base.proofs.MarkLemmas.{mark_is}
+use Rattle.zone_plain_base.{specs.Marks.{behind}, specs.Renamed.{ruleset_of}, proofs.MarkLemmas.{mark_is}}
 use Rattle.zone_plain_base.proofs.renamed.mark_of.Goals as goal
 
 pub returns : goal.returns

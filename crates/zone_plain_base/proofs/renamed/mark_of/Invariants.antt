@@ -1,8 +1,6 @@
-use Rattle.std.proofs.Common.{◌≡◌, map, take}
-use Rattle.std.specs.Prelude.{flat_map}
+use Rattle.std.{proofs.Common.{◌≡◌, map, take}, specs.Prelude.{flat_map}}
 use Rattle.zone_values.specs.Values.{line_value}
-use Rattle.zone_plain_base.specs.Marks.{behind}
-use Rattle.zone_plain_base.specs.Renamed.{ruleset_of}
+use Rattle.zone_plain_base.specs.{Marks.{behind}, Renamed.{ruleset_of}}
 use Rattle.zone_plain_base.proofs.renamed.mark_of.Given as goal
 
 -- what stands behind the `_` in the names so far

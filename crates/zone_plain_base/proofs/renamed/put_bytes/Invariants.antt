@@ -1,5 +1,4 @@
-use Rattle.std.proofs.Common.{◌≡◌, take, ◌++◌}
-use Rattle.std.specs.Prelude.{flat_map, string_bytes}
+use Rattle.std.{proofs.Common.{◌≡◌, take, ◌++◌}, specs.Prelude.{flat_map, string_bytes}}
 use Rattle.zone_plain_base.specs.Names.{byte_text}
 use Rattle.zone_plain_base.proofs.renamed.put_bytes.Given as goal
 

@@ -1,8 +1,5 @@
-use Rattle.std.proofs.Common.{◌∙◌, rules, sym, ap, length, map}
-use Rattle.std.proofs.lemmas.List.{length-map}
-use Rattle.std.specs.Prelude.{◌==◌}
-use Rattle.zone_plain_base.specs.Marks.{tails, rarer}
-use Rattle.zone_plain_base.proofs.MarkLemmas.{smaller, one_letter, all_letters}
+use Rattle.std.{proofs.Common.{◌∙◌, rules, sym, ap, length, map}, proofs.lemmas.List.{length-map}, specs.Prelude.{◌==◌}}
+use Rattle.zone_plain_base.{specs.Marks.{tails, rarer}, proofs.MarkLemmas.{smaller, one_letter, all_letters}}
 use Rattle.zone_plain_base.proofs.renamed.put_ending.Goals as goal
 
 pub loop-alloc-smaller : goal.loop-alloc-smaller

@@ -1,5 +1,4 @@
-use Rattle.std.proofs.Common.{◌≡◌, ◌++◌, length, map}
-use Rattle.std.specs.Prelude.{string_bytes}
+use Rattle.std.{proofs.Common.{◌≡◌, ◌++◌, length, map}, specs.Prelude.{string_bytes}}
 use Rattle.zone_plain_base.specs.Marks.{ending}
 use Rattle.zone_plain_base.proofs.renamed.put_ending.Given as goal
 

@@ -1,7 +1,4 @@
-use Rattle.std.proofs.Common.{◌∙◌, sym, ap}
-use Rattle.std.specs.Prelude.{flat_map}
-use Rattle.std.proofs.lemmas.List.{take_all}
-use Rattle.std.proofs.lemmas.List.Folds.{flat_map-map}
+use Rattle.std.{proofs.Common.{◌∙◌, sym, ap}, specs.Prelude.{flat_map}, proofs.lemmas.List.{take_all}, proofs.lemmas.List.Folds.{flat_map-map}}
 use Rattle.zone_plain_base.specs.Marks.{behind}
 use Rattle.zone_plain_base.proofs.renamed.tails.Goals as goal
 

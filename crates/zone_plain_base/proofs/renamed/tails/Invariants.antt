@@ -1,5 +1,4 @@
-use Rattle.std.proofs.Common.{◌≡◌, map, take}
-use Rattle.std.specs.Prelude.{flat_map}
+use Rattle.std.{proofs.Common.{◌≡◌, map, take}, specs.Prelude.{flat_map}}
 use Rattle.zone_plain_base.specs.Marks.{behind}
 use Rattle.zone_plain_base.proofs.renamed.tails.Given as goal
 

@@ -1,9 +1,7 @@
 use Rattle.std.proofs.Common.{◌≡◌, ◌∙◌, ap, rules, sym}
-use Rattle.zone_values.specs.Values.{line_value}
+use Rattle.zone_values.specs.{Values.{line_value}, declared.line.Line.{Line}}
 use Rattle.zone_values.specs.contracts.line.LinePartialEq.TheImpl as of_line
-use Rattle.zone_values.specs.declared.line.Line.{Line}
-use Rattle.zone_plain_base.specs.Said.{is_read_as}
-use Rattle.zone_plain_base.specs.Same.{same_line}
+use Rattle.zone_plain_base.specs.{Said.{is_read_as}, Same.{same_line}}
 use Rattle.zone_plain_base.proofs.said.is_read.Goals as goal
 
 same_is : (a b : Line) → of_line.ghosts.eq a b ≡ same_line (line_value a) (line_value b)

@@ -1,8 +1,4 @@
-use Rattle.std.proofs.Common.{ap, ◌∙◌, lit<}
-use Rattle.std.specs.Prelude.{filter}
-use Rattle.std.specs.Str.Iter.{split_text, split_has_more, split_pattern}
-use Rattle.std.proofs.lemmas.Iterator.Consumers.{YieldsList-end}
-use Rattle.std.proofs.lemmas.Iterator.Splits.{YieldsList-from_str_split}
+use Rattle.std.{proofs.Common.{ap, ◌∙◌, lit<}, specs.Prelude.{filter}, specs.Str.Iter.{split_text, split_has_more, split_pattern}, proofs.lemmas.Iterator.Consumers.{YieldsList-end}, proofs.lemmas.Iterator.Splits.{YieldsList-from_str_split}}
 use Rattle.zone_plain_lines.specs.Quotes.{pieces, is_text}
 use Rattle.zone_plain_lines.proofs.fields.fields_of.Goals as goal
 

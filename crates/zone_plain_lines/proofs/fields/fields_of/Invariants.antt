@@ -1,5 +1,4 @@
-use Rattle.std.proofs.Common.{◌≡◌, map}
-use Rattle.std.specs.Prelude.{filter}
+use Rattle.std.{proofs.Common.{◌≡◌, map}, specs.Prelude.{filter}}
 use Rattle.zone_plain_lines.specs.Quotes.{is_text}
 use Rattle.zone_plain_lines.proofs.fields.fields_of.Given as goal
 

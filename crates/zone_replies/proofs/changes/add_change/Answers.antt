@@ -1,11 +1,6 @@
-use Rattle.std.proofs.Common.{◌++◌, ap, sym, ◌∙◌}
-use Rattle.std.proofs.lemmas.Result.{on_ok_weaker}
-use Rattle.civil_base.specs.DateTimes.{instant, offset_of}
-use Rattle.civil_base.specs.Instants.{local_at}
-use Rattle.zone_replies.specs.Forces.{force_shown}
-use Rattle.zone_replies.specs.Lists.{change_text, kind_between}
-use Rattle.zone_replies.specs.Objects.{change_object_text}
-use Rattle.zone_replies.proofs.LocalLemmas.{local_is}
+use Rattle.std.proofs.{Common.{◌++◌, ap, sym, ◌∙◌}, lemmas.Result.{on_ok_weaker}}
+use Rattle.civil_base.specs.{DateTimes.{instant, offset_of}, Instants.{local_at}}
+use Rattle.zone_replies.{specs.Forces.{force_shown}, specs.Lists.{change_text, kind_between}, specs.Objects.{change_object_text}, proofs.LocalLemmas.{local_is}}
 use Rattle.zone_replies.proofs.changes.add_change.Goals as goal
 
 pub returns-in-Json : goal.returns-in-Json

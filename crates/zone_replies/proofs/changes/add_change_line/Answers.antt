@@ -1,10 +1,7 @@
 use Rattle.std.proofs.Common.{◌≡◌, to_z, of_z, to_z-of_z, w64, [], ◌∷◌, ◌++◌, ap, sym, ◌∙◌, Ok}
-use Rattle.zone_replies.specs.Faults.{behind}
-use Rattle.zone_replies.specs.Forces.{force_shown}
-use Rattle.zone_replies.specs.Lists.{change_due, change_text}
-use Rattle.civil_base.specs.DateTimes.{instant}
-use Rattle.zone_replies.proofs.ListLemmas.{change_is, new_out, old_out}
+use Rattle.zone_replies.{specs.Faults.{behind}, specs.Forces.{force_shown}, specs.Lists.{change_due, change_text}, proofs.ListLemmas.{change_is, new_out, old_out}}
 use Rattle.zone_replies.proofs.changes.add_change_line.Goals as goal
+use Rattle.civil_base.specs.DateTimes.{instant}
 
 pub returns-in_default-clause-cause : goal.returns-in_default-clause-cause
 returns-in_default-clause-cause g c =

@@ -1,8 +1,5 @@
-use Rattle.std.proofs.Common.{ℤ, pos, slice_index_or, to_z, of_z, to_z-of_z, FitsSigned, w64, rules, ap, map-id}
-use Rattle.std.proofs.lemmas.Result.{err_from_is_err_and}
-use Rattle.zone_replies.specs.Faults.{Due, behind, each_due}
-use Rattle.zone_replies.specs.Lists.{change_due}
-use Rattle.zone_replies.specs.DueLaws.{loop_end, loop_fault, loop_more}
+use Rattle.std.proofs.{Common.{ℤ, pos, slice_index_or, to_z, of_z, to_z-of_z, FitsSigned, w64, rules, ap, map-id}, lemmas.Result.{err_from_is_err_and}}
+use Rattle.zone_replies.specs.{Faults.{Due, behind, each_due}, Lists.{change_due}, DueLaws.{loop_end, loop_fault, loop_more}}
 use Rattle.zone_replies.proofs.changes.add_lines.Goals as goal
 
 pub loop-change-init : goal.loop-change-init

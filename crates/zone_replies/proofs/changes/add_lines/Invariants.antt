@@ -1,6 +1,5 @@
 use Rattle.std.proofs.Common.{◌≡◌, drop, map}
-use Rattle.zone_replies.specs.Faults.{behind, each_due}
-use Rattle.zone_replies.specs.Lists.{change_due}
+use Rattle.zone_replies.specs.{Faults.{behind, each_due}, Lists.{change_due}}
 use Rattle.zone_replies.proofs.changes.add_lines.Given as goal
 
 abbrev pub invariant-loop-change : goal.invariant-loop-change

@@ -1,10 +1,5 @@
-use Rattle.std.proofs.Common.{◌≡◌, ◌++◌, to_z, of_z, to_z-of_z, FitsSigned, w64, rules, ap, sym, ◌∙◌}
-use Rattle.std.proofs.lemmas.Result.{err_from_is_err_and}
-use Rattle.zone_replies.specs.Faults.{behind}
-use Rattle.zone_replies.specs.Lists.{second_from}
-use Rattle.zone_replies.specs.DueLaws.{moved, whole}
-use Rattle.zone_replies.proofs.ListLemmas.{list_is}
-use Rattle.zone_replies.proofs.LocalLemmas.{at_utc}
+use Rattle.std.proofs.{Common.{◌≡◌, ◌++◌, to_z, of_z, to_z-of_z, FitsSigned, w64, rules, ap, sym, ◌∙◌}, lemmas.Result.{err_from_is_err_and}}
+use Rattle.zone_replies.{specs.Faults.{behind}, specs.Lists.{second_from}, specs.DueLaws.{moved, whole}, proofs.ListLemmas.{list_is}, proofs.LocalLemmas.{at_utc}}
 use Rattle.zone_replies.proofs.changes.add_list.Goals as goal
 
 pub returns-in_err-add_lines-clause-cause : goal.returns-in_err-add_lines-clause-cause

@@ -1,11 +1,7 @@
-use Rattle.std.proofs.Common.{◌++◌, ap, sym, ◌∙◌}
-use Rattle.std.proofs.lemmas.Result.{on_ok_weaker}
-use Rattle.civil_base.specs.DateTimes.{instant, offset_of}
-use Rattle.civil_base.specs.Instants.{seconds_of}
+use Rattle.std.proofs.{Common.{◌++◌, ap, sym, ◌∙◌}, lemmas.Result.{on_ok_weaker}}
+use Rattle.civil_base.specs.{DateTimes.{instant, offset_of}, Instants.{seconds_of}}
 use Rattle.zone_moments.specs.Written.{people_text, rfc3339_text}
-use Rattle.zone_replies.specs.Instants.{instant_text}
-use Rattle.zone_replies.specs.Objects.{object_text}
-use Rattle.zone_replies.proofs.LocalLemmas.{local_is}
+use Rattle.zone_replies.{specs.Instants.{instant_text}, specs.Objects.{object_text}, proofs.LocalLemmas.{local_is}}
 use Rattle.zone_replies.proofs.line.add_instant.Goals as goal
 
 pub returns-in-People : goal.returns-in-People

@@ -1,8 +1,6 @@
 use Rattle.std.proofs.Common.{ap, sym, ◌∙◌, Ok}
 use Rattle.civil_base.specs.DateTimes.{instant}
-use Rattle.zone_replies.specs.Faults.{behind}
-use Rattle.zone_replies.specs.Instants.{is_untold}
-use Rattle.zone_replies.proofs.InstantLemmas.{told_is, untold_is}
+use Rattle.zone_replies.{specs.Faults.{behind}, specs.Instants.{is_untold}, proofs.InstantLemmas.{told_is, untold_is}}
 use Rattle.zone_replies.proofs.line.add_shown.Goals as goal
 
 pub returns-then-is_untold-clause-err : goal.returns-then-is_untold-clause-err

@@ -1,8 +1,5 @@
-use Rattle.std.proofs.Common.{◌≡◌, ℕ, ◌+◌, ◌<◌, ◌≤◌, List, [], ◌∷◌, ◌++◌, length, take, slice_index_or, Result, Ok, Err, append_assoc, append-nil, refl, ap, sym, ◌∙◌}
-use Rattle.std.proofs.lemmas.Grind.{flat_map-append}
-use Rattle.std.proofs.lemmas.List.{take_all, take_at, take_more}
-use Rattle.std.specs.List.{flat_map}
-use Rattle.std.specs.Result.{OnErr}
+use Rattle.std.proofs.{Common.{◌≡◌, ℕ, ◌+◌, ◌<◌, ◌≤◌, List, [], ◌∷◌, ◌++◌, length, take, slice_index_or, Result, Ok, Err, append_assoc, append-nil, refl, ap, sym, ◌∙◌}, lemmas.Grind.{flat_map-append}, lemmas.List.{take_all, take_at, take_more}}
+use Rattle.std.specs.{List.{flat_map}, Result.{OnErr}}
 use Rattle.zone_replies.specs.Objects.{escaped, quoted}
 use Rattle.zone_replies.proofs.object.add_string.Goals as goal
 

@@ -1,5 +1,4 @@
-use Rattle.std.proofs.Common.{◌≡◌, ◌++◌, ◌∷◌, take}
-use Rattle.std.specs.List.{flat_map}
+use Rattle.std.{proofs.Common.{◌≡◌, ◌++◌, ◌∷◌, take}, specs.List.{flat_map}}
 use Rattle.zone_replies.specs.Objects.{escaped}
 use Rattle.zone_replies.proofs.object.add_string.Given as goal
 

@@ -1,9 +1,6 @@
-use Rattle.std.proofs.Common.{ℤ}
-use Rattle.std.proofs.lemmas.Result.{err_from_is_err_and}
+use Rattle.std.proofs.{Common.{ℤ}, lemmas.Result.{err_from_is_err_and}}
 use Rattle.civil_base.specs.DateTimes.{instant}
-use Rattle.zone_replies.specs.Faults.{Due, behind}
-use Rattle.zone_replies.specs.Instants.{shown_due}
-use Rattle.zone_replies.specs.DueLaws.{loop_end, loop_fault, loop_more}
+use Rattle.zone_replies.specs.{Faults.{Due, behind}, Instants.{shown_due}, DueLaws.{loop_end, loop_fault, loop_more}}
 use Rattle.zone_replies.proofs.readings.add_after.Goals as goal
 
 pub returns-in_err-add_behind-clause-err : goal.returns-in_err-add_behind-clause-err

@@ -1,7 +1,6 @@
 use Rattle.std.proofs.Common.{◌≡◌, drop, map}
 use Rattle.civil_base.specs.DateTimes.{instant}
-use Rattle.zone_replies.specs.Faults.{behind}
-use Rattle.zone_replies.specs.Readings.{after_each}
+use Rattle.zone_replies.specs.{Faults.{behind}, Readings.{after_each}}
 use Rattle.zone_replies.proofs.readings.add_after.Given as goal
 
 abbrev pub invariant-loop-date : goal.invariant-loop-date

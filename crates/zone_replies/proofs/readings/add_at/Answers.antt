@@ -1,10 +1,6 @@
-use Rattle.std.proofs.Common.{◌++◌, ap, subst, ◌∙◌}
-use Rattle.std.proofs.lemmas.Result.{err_from_is_err_and}
+use Rattle.std.proofs.{Common.{◌++◌, ap, subst, ◌∙◌}, lemmas.Result.{err_from_is_err_and}}
 use Rattle.civil_base.specs.DateTimes.{instant}
-use Rattle.zone_replies.specs.Faults.{behind}
-use Rattle.zone_replies.specs.Instants.{kind_at, IsKindFor}
-use Rattle.zone_replies.specs.DueLaws.{moved, whole}
-use Rattle.zone_replies.proofs.InstantLemmas.{at_is}
+use Rattle.zone_replies.{specs.Faults.{behind}, specs.Instants.{kind_at, IsKindFor}, specs.DueLaws.{moved, whole}, proofs.InstantLemmas.{at_is}}
 use Rattle.zone_replies.proofs.readings.add_at.Goals as goal
 
 pub returns-in_err-add_shown-clause-cause : goal.returns-in_err-add_shown-clause-cause

@@ -1,16 +1,7 @@
-use Rattle.std.proofs.Common.{◌≡◌, ℕ, ◌-◌, ◌<◌, ◌≤◌, false, List, [], ◌∷◌, length, map, take, drop, slice_index_or, subst, ap, sym, ◌∙◌, arith, ℤ, Result}
-use Rattle.std.proofs.lemmas.List.{take_all}
-use Rattle.std.specs.Prelude.{Ok, Err}
-use Rattle.std.specs.Result.{IfErr, OnOk}
+use Rattle.std.{proofs.Common.{◌≡◌, ℕ, ◌-◌, ◌<◌, ◌≤◌, false, List, [], ◌∷◌, length, map, take, drop, slice_index_or, subst, ap, sym, ◌∙◌, arith, ℤ, Result}, proofs.lemmas.List.{take_all}, specs.Prelude.{Ok, Err}, specs.Result.{IfErr, OnOk}}
 use Rattle.zone_moments.specs.declared.answer_form.AnswerForm.{AnswerForm}
-use Rattle.civil_base.specs.DateTimes.{instant}
-use Rattle.civil_base.specs.declared.offset_date_time.OffsetDateTime.{OffsetDateTime}
-use Rattle.zone_replies.specs.Faults.{Due, behind, IsFaultOf}
-use Rattle.zone_replies.specs.Instants.{is_untold}
-use Rattle.zone_replies.specs.Readings.{convert_due, first_due, read_due}
-use Rattle.zone_replies.specs.Skips.{gap_due}
-use Rattle.zone_replies.specs.Views.{ZoneView}
-use Rattle.zone_replies.specs.declared.fault.ReplyFault.{ReplyFault}
+use Rattle.civil_base.specs.{DateTimes.{instant}, declared.offset_date_time.OffsetDateTime.{OffsetDateTime}}
+use Rattle.zone_replies.specs.{Faults.{Due, behind, IsFaultOf}, Instants.{is_untold}, Readings.{convert_due, first_due, read_due}, Skips.{gap_due}, Views.{ZoneView}, declared.fault.ReplyFault.{ReplyFault}}
 use Rattle.zone_replies.proofs.readings.add_read.Goals as goal
 
 -- what is due where the local time isn't past the last year

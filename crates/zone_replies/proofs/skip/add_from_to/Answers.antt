@@ -1,6 +1,4 @@
-use Rattle.std.proofs.Common.{◌≡◌, ℕ, List, ◌++◌, Result, Ok, Err, ℤ, to_z, of_z, to_z-of_z, FitsSigned, w64, append_assoc, ap, ◌∙◌}
-use Rattle.std.specs.Prelude.{codes, if◌then◌else◌}
-use Rattle.std.specs.Result.{is_ok, OnOk}
+use Rattle.std.{proofs.Common.{◌≡◌, ℕ, List, ◌++◌, Result, Ok, Err, ℤ, to_z, of_z, to_z-of_z, FitsSigned, w64, append_assoc, ap, ◌∙◌}, specs.Prelude.{codes, if◌then◌else◌}, specs.Result.{is_ok, OnOk}}
 use Rattle.zone_moments.specs.Written.{offset_shown}
 use Rattle.zone_replies.specs.Skips.{after_of, before_of, from_to_text}
 use Rattle.zone_replies.proofs.skip.add_from_to.Goals as goal

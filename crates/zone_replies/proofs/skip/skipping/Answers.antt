@@ -1,8 +1,7 @@
 use Rattle.std.proofs.Common.{◌≡◌, ap, ◌∙◌, arith, find, pos, ◌-ℤ◌, ◌+ℤ◌, to_z, of_z, w64}
 use Rattle.basics.specs.SignedLaws.{signed_casts}
 use Rattle.civil_base.specs.Instants.{seconds_of}
-use Rattle.zone_replies.specs.Skips.{skipping, skips}
-use Rattle.zone_replies.proofs.LocalLemmas.{at_utc}
+use Rattle.zone_replies.{specs.Skips.{skipping, skips}, proofs.LocalLemmas.{at_utc}}
 use Rattle.zone_replies.proofs.skip.skipping.Goals as goal
 
 pub returns : goal.returns

@@ -1,5 +1,4 @@
-use Rattle.zone_run.proofs.RespondLemmas.{source_refuses, zone_refuses, program_refuses, program_answers}
-use Rattle.zone_run.specs.Responses.{cause_told}
+use Rattle.zone_run.{proofs.RespondLemmas.{source_refuses, zone_refuses, program_refuses, program_answers}, specs.Responses.{cause_told}}
 use Rattle.zone_run.proofs.respond.respond.Goals as goal
 
 pub returns-in-Err : goal.returns-in-Err

@@ -1,8 +1,7 @@
 use Rattle.std.proofs.Common.{rules, to_z-of_z, FitsSigned, ap, ◌∙◌}
 use mir.Syntax.{w128}
 use Rattle.std.specs.Prelude.{int_lt}
-use Rattle.zone_serving.specs.Plain.{year_2100}
-use Rattle.zone_serving.proofs.PlainLemmas.{utc_instant}
+use Rattle.zone_serving.{specs.Plain.{year_2100}, proofs.PlainLemmas.{utc_instant}}
 use Rattle.zone_serving.proofs.plain.is_to_2099.Goals as goal
 
 pub returns-in-Local : goal.returns-in-Local

@@ -1,8 +1,5 @@
-use Rattle.std.proofs.Common.{ℕ, ℤ, List, subst}
-use Rattle.std.specs.Prelude.{Option}
-use Rattle.zone_pieces.specs.Fronts.{fronts_rewritten}
-use Rattle.zone_pieces.specs.Logs.{log_front}
-use Rattle.zone_pieces.specs.Runs.{Ends}
+use Rattle.std.{proofs.Common.{ℕ, ℤ, List, subst}, specs.Prelude.{Option}}
+use Rattle.zone_pieces.specs.{Fronts.{fronts_rewritten}, Logs.{log_front}, Runs.{Ends}}
 use Rattle.zone_serving.specs.LogTexts.{log_text}
 use Rattle.zone_serving.proofs.serving.serve_log.Goals as goal
 

@@ -1,7 +1,6 @@
 use Rattle.std.proofs.Common.{ap, sym, option_map, ◌∙◌}
 use Rattle.tz_ever.specs.EverShown.{ever_seen}
-use Rattle.zone_serving.specs.Wholes.{IsFileOf}
-use Rattle.zone_serving.proofs.WholeLemmas.{given}
+use Rattle.zone_serving.{specs.Wholes.{IsFileOf}, proofs.WholeLemmas.{given}}
 use Rattle.zone_serving.proofs.source.file_in.Goals as goal
 
 pub returns-in-Some : goal.returns-in-Some

@@ -1,5 +1,4 @@
-use Rattle.sefunjaro.specs.Sources.{table_in}
-use Rattle.sefunjaro.specs.Zones.{ever_in}
+use Rattle.sefunjaro.specs.{Sources.{table_in}, Zones.{ever_in}}
 use Rattle.zone_serving.proofs.ViewLemmas.{ever_is, found_as, told_as}
 use Rattle.zone_serving.proofs.source.opened.Goals as goal
 

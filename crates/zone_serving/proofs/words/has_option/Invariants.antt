@@ -1,5 +1,4 @@
-use Rattle.std.proofs.Common.{◌≡◌, drop, map}
-use Rattle.std.specs.Prelude.{string_bytes}
+use Rattle.std.{proofs.Common.{◌≡◌, drop, map}, specs.Prelude.{string_bytes}}
 use Rattle.zone_serving.specs.Requests.{has_option}
 use Rattle.zone_serving.proofs.words.has_option.Given as goal
 

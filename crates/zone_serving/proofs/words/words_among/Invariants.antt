@@ -1,8 +1,7 @@
-use Rattle.std.proofs.Common.{◌≡◌, [], drop, map}
-use Rattle.std.specs.Prelude.{string_bytes}
+use Rattle.std.{proofs.Common.{◌≡◌, [], drop, map}, specs.Prelude.{string_bytes}}
 use Rattle.zone_serving.specs.Requests.{words_among}
-use Rattle.zone_words.specs.Shown.{word_shown}
 use Rattle.zone_serving.proofs.words.words_among.Given as goal
+use Rattle.zone_words.specs.Shown.{word_shown}
 
 -- what is left, behind what was found, is all
 abbrev pub invariant-loop-piece : goal.invariant-loop-piece

@@ -1,5 +1,4 @@
-use Rattle.std.proofs.lemmas.Str.{is_utf8-from_IsUtf8, IsUtf8-from_is_utf8}
-use Rattle.std.proofs.lemmas.Bool.{false_from_ne_true}
+use Rattle.std.proofs.lemmas.{Str.{is_utf8-from_IsUtf8, IsUtf8-from_is_utf8}, Bool.{false_from_ne_true}}
 use Rattle.zone_source.proofs.lines.text_of.Goals as goal
 
 pub returns-in-Ok-clause-text : goal.returns-in-Ok-clause-text

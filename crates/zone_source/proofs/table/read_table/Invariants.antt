@@ -1,5 +1,4 @@
-use Rattle.zone_source.specs.LinesLeft.{lines_left}
-use Rattle.zone_source.proofs.JoinLemmas.{HasJoined}
+use Rattle.zone_source.{specs.LinesLeft.{lines_left}, proofs.JoinLemmas.{HasJoined}}
 use Rattle.zone_source.proofs.table.read_table.Given as goal
 
 abbrev pub invariant-loop-line : goal.invariant-loop-line

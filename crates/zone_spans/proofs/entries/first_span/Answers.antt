@@ -1,8 +1,5 @@
 use Rattle.std.proofs.Common.{IsTrue, sym, subst}
-use Rattle.zone_spans.specs.declared.span.FixedTimespan.{FixedTimespan}
-use Rattle.zone_spans.specs.Bounds.{is_bounded_span}
-use Rattle.zone_spans.proofs.EntryLemmas.{bounded_fixed}
-use Rattle.zone_spans.proofs.SoundLemmas.{first_bounded}
+use Rattle.zone_spans.{specs.declared.span.FixedTimespan.{FixedTimespan}, specs.Bounds.{is_bounded_span}, proofs.EntryLemmas.{bounded_fixed}, proofs.SoundLemmas.{first_bounded}}
 use Rattle.zone_spans.proofs.entries.first_span.Goals as goal
 
 pub returns-in_ok-fixed_span-in-Some-2-clause-bounded : goal.returns-in_ok-fixed_span-in-Some-2-clause-bounded

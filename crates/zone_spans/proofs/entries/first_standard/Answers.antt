@@ -1,11 +1,5 @@
-use Rattle.std.proofs.Common.{rules, ◌≡◌, find, Option, Some, option_map, IfSome, IsTrue, ap, sym, ◌∙◌, subst}
-use Rattle.std.proofs.lemmas.Iterator.{YieldsList-from_slice}
-use Rattle.std.proofs.lemmas.Iterator.Search.{find_from_yields_List}
-use Rattle.zone_spans.specs.declared.span.FixedTimespan.{FixedTimespan}
-use Rattle.zone_spans.specs.Bounds.{is_bounded_entry, is_bounded_span, is_small}
-use Rattle.zone_spans.specs.Entries.{Entry, is_standard}
-use Rattle.zone_spans.proofs.BoundLemmas.{second}
-use Rattle.zone_spans.proofs.FoundLemmas.{found_passes}
+use Rattle.std.proofs.{Common.{rules, ◌≡◌, find, Option, Some, option_map, IfSome, IsTrue, ap, sym, ◌∙◌, subst}, lemmas.Iterator.{YieldsList-from_slice}, lemmas.Iterator.Search.{find_from_yields_List}}
+use Rattle.zone_spans.{specs.declared.span.FixedTimespan.{FixedTimespan}, specs.Bounds.{is_bounded_entry, is_bounded_span, is_small}, specs.Entries.{Entry, is_standard}, proofs.BoundLemmas.{second}, proofs.FoundLemmas.{found_passes}}
 use Rattle.zone_spans.proofs.entries.first_standard.Goals as goal
 
 pub returns-in_ok-copy-in-Some-clause-bounded : goal.returns-in_ok-copy-in-Some-clause-bounded

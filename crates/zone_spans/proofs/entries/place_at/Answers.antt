@@ -1,9 +1,5 @@
-use Rattle.std.proofs.Common.{◌≡◌, true, false, length, get_or, sym, ap, ◌∙◌, subst, arith, to_z, of_z, w64}
-use Rattle.std.proofs.lemmas.List.Sums.{position_or_len_is}
-use Rattle.std.proofs.lemmas.Int.{to_z-of_z}
-use Rattle.zone_spans.specs.Firings.{Firing}
-use Rattle.zone_spans.specs.Listing.{is_at}
-use Rattle.zone_spans.proofs.FiringLemmas.{some_rule}
+use Rattle.std.proofs.{Common.{◌≡◌, true, false, length, get_or, sym, ap, ◌∙◌, subst, arith, to_z, of_z, w64}, lemmas.List.Sums.{position_or_len_is}, lemmas.Int.{to_z-of_z}}
+use Rattle.zone_spans.{specs.Firings.{Firing}, specs.Listing.{is_at}, proofs.FiringLemmas.{some_rule}}
 use Rattle.zone_spans.proofs.entries.place_at.Goals as goal
 
 pub returns-then-is_at-clause-place : goal.returns-then-is_at-clause-place

@@ -1,6 +1,5 @@
 use Rattle.std.proofs.Common.{◌≡◌, ℕ, ◌<◌, false, get_or}
-use Rattle.zone_spans.specs.Firings.{Firing}
-use Rattle.zone_spans.specs.Listing.{is_at}
+use Rattle.zone_spans.specs.{Firings.{Firing}, Listing.{is_at}}
 use Rattle.zone_spans.proofs.entries.place_at.Given as goal
 
 abbrev pub invariant-loop-i : goal.invariant-loop-i

@@ -1,11 +1,6 @@
-use Rattle.std.proofs.Common.{◌++◌, List, map, IsTrue, sym, ap, ◌∙◌, subst, rules, w64, SFits}
-use Rattle.std.proofs.lemmas.Int.{to_z-of_z}
+use Rattle.std.proofs.{Common.{◌++◌, List, map, IsTrue, sym, ap, ◌∙◌, subst, rules, w64, SFits}, lemmas.Int.{to_z-of_z}}
 use Rattle.zone_values.specs.Bounds.{are_small_seconds}
-use Rattle.zone_spans.specs.Entries.{entry_of, start_entry}
-use Rattle.zone_spans.specs.Firings.{Firing}
-use Rattle.zone_spans.specs.Listing.{listed_firings}
-use Rattle.zone_spans.proofs.EntryLemmas.{bounded_ruled, bounded_unruled, ruled_entries}
-use Rattle.zone_spans.proofs.SoundLemmas.{bounded_saving, sound_end}
+use Rattle.zone_spans.{specs.Entries.{entry_of, start_entry}, specs.Firings.{Firing}, specs.Listing.{listed_firings}, proofs.EntryLemmas.{bounded_ruled, bounded_unruled, ruled_entries}, proofs.SoundLemmas.{bounded_saving, sound_end}}
 use Rattle.zone_spans.proofs.entries.push_line.Goals as goal
 
 pub returns-then-is_ruled-clause-entries : goal.returns-then-is_ruled-clause-entries

@@ -1,8 +1,5 @@
-use Rattle.std.proofs.Common.{◌++◌, map, filter, take, drop, int_lt, ap, ◌∙◌, w64}
-use Rattle.std.proofs.lemmas.Int.{to_z-of_z}
-use Rattle.std.proofs.lemmas.Result.{IfOk-equal}
-use Rattle.zone_spans.specs.Entries.{entry_of}
-use Rattle.zone_spans.proofs.EntryLemmas.{listed_more, to_end}
+use Rattle.std.proofs.{Common.{◌++◌, map, filter, take, drop, int_lt, ap, ◌∙◌, w64}, lemmas.Int.{to_z-of_z}, lemmas.Result.{IfOk-equal}}
+use Rattle.zone_spans.{specs.Entries.{entry_of}, proofs.EntryLemmas.{listed_more, to_end}}
 use Rattle.zone_spans.proofs.entries.push_listed.Goals as goal
 
 pub returns : goal.returns

@@ -1,10 +1,5 @@
-use Rattle.std.proofs.Common.{◌≡◌, ◌++◌, drop, length, ap, ◌∙◌, subst, arith}
-use Rattle.std.proofs.lemmas.List.Folds.{list_all-append}
-use Rattle.std.specs.List.{list_all}
-use Rattle.zone_spans.specs.Bounds.{is_bounded_entry}
-use Rattle.zone_spans.specs.Entries.{entries_from_over, entries_of_over, raw_entries_over}
-use Rattle.zone_spans.proofs.BoundLemmas.{both}
-use Rattle.zone_spans.proofs.EntryLemmas.{entries_more, entries_done}
+use Rattle.std.{proofs.Common.{◌≡◌, ◌++◌, drop, length, ap, ◌∙◌, subst, arith}, proofs.lemmas.List.Folds.{list_all-append}, specs.List.{list_all}}
+use Rattle.zone_spans.{specs.Bounds.{is_bounded_entry}, specs.Entries.{entries_from_over, entries_of_over, raw_entries_over}, proofs.BoundLemmas.{both}, proofs.EntryLemmas.{entries_more, entries_done}}
 use Rattle.zone_spans.proofs.entries.raw_entries.Goals as goal
 
 pub loop-line-preserved : goal.loop-line-preserved

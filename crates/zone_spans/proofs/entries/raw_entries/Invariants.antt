@@ -1,9 +1,5 @@
-use Rattle.std.proofs.Common.{◌≡◌, ◌++◌, drop, IsTrue}
-use Rattle.std.specs.List.{list_all}
-use Rattle.zone_spans.specs.Bounds.{is_bounded_entry, is_start}
-use Rattle.zone_spans.specs.Entries.{entries_from_over, raw_entries_over}
-use Rattle.zone_spans.specs.KeptFor.{IsKept}
-use Rattle.zone_spans.specs.Several.{AreAll}
+use Rattle.std.{proofs.Common.{◌≡◌, ◌++◌, drop, IsTrue}, specs.List.{list_all}}
+use Rattle.zone_spans.specs.{Bounds.{is_bounded_entry, is_start}, Entries.{entries_from_over, raw_entries_over}, KeptFor.{IsKept}, Several.{AreAll}}
 use Rattle.zone_spans.proofs.entries.raw_entries.Given as goal
 
 abbrev pub invariant-loop-line : goal.invariant-loop-line

@@ -1,11 +1,6 @@
-use Rattle.std.proofs.Common.{rules, ℤ, ◌∙◌, ap}
-use Rattle.std.proofs.lemmas.Result.{IfOk-equal, IfOk-weaker}
-use Rattle.std.proofs.lemmas.List.Sorted.{answers_always}
-use Rattle.std.specs.List.{list_all}
+use Rattle.std.{proofs.Common.{rules, ℤ, ◌∙◌, ap}, proofs.lemmas.Result.{IfOk-equal, IfOk-weaker}, proofs.lemmas.List.Sorted.{answers_always}, specs.List.{list_all}}
 use Rattle.basics.specs.Sorted.{stable_sort}
-use Rattle.zone_spans.specs.Bounds.{is_bounded_entry}
-use Rattle.zone_spans.specs.Entries.{Entry, is_sooner}
-use Rattle.zone_spans.proofs.EntryLemmas.{sooner_is, sorted_passes}
+use Rattle.zone_spans.{specs.Bounds.{is_bounded_entry}, specs.Entries.{Entry, is_sooner}, proofs.EntryLemmas.{sooner_is, sorted_passes}}
 use Rattle.zone_spans.proofs.entries.sort.Goals as goal
 
 pub returns-clause-sorted : goal.returns-clause-sorted

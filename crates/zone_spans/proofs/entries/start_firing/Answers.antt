@@ -1,6 +1,4 @@
-use Rattle.std.proofs.Common.{◌≡◌, ◌<◌, true, None, length, nat_lt, if◌then◌else◌, sym, subst, ap, lt-ltb, find, reverse, int_lt, int_eq, pos}
-use Rattle.std.specs.List.{position_or_len}
-use Rattle.std.specs.Option.{option_or}
+use Rattle.std.{proofs.Common.{◌≡◌, ◌<◌, true, None, length, nat_lt, if◌then◌else◌, sym, subst, ap, lt-ltb, find, reverse, int_lt, int_eq, pos}, specs.List.{position_or_len}, specs.Option.{option_or}}
 use Rattle.zone_spans.specs.Listing.{is_at, start_firing}
 use Rattle.zone_spans.proofs.entries.start_firing.Goals as goal
 

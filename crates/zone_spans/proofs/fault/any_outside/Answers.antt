@@ -1,8 +1,6 @@
-use Rattle.std.proofs.Common.{◌≡◌, Bool, false, length, drop, sym, ◌∙◌, subst, arith}
-use Rattle.std.specs.List.{list_any}
+use Rattle.std.{proofs.Common.{◌≡◌, Bool, false, length, drop, sym, ◌∙◌, subst, arith}, specs.List.{list_any}}
 use Rattle.zone_table.specs.declared.rule.RuleInfo.{RuleInfo}
-use Rattle.zone_spans.specs.Faults.{is_outside, some_year}
-use Rattle.zone_spans.proofs.SoundLemmas.{any_here, any_behind, any_nowhere, none_at}
+use Rattle.zone_spans.{specs.Faults.{is_outside, some_year}, proofs.SoundLemmas.{any_here, any_behind, any_nowhere, none_at}}
 use Rattle.zone_spans.proofs.fault.any_outside.Goals as goal
 
 pub is_outside_in_some_year-requires-clause-tested : goal.is_outside_in_some_year-requires-clause-tested

@@ -1,5 +1,4 @@
-use Rattle.std.proofs.Common.{◌≡◌, drop}
-use Rattle.std.specs.List.{list_any}
+use Rattle.std.{proofs.Common.{◌≡◌, drop}, specs.List.{list_any}}
 use Rattle.zone_spans.specs.Faults.{is_outside, some_year}
 use Rattle.zone_spans.proofs.fault.any_outside.Given as goal
 

@@ -1,7 +1,5 @@
-use Rattle.std.proofs.Common.{◌≡◌, false, sym, ap, ◌∙◌, subst, arith, rules, w64, SFits}
-use Rattle.std.proofs.lemmas.Int.{to_z-of_z}
-use Rattle.zone_spans.specs.Faults.{is_outside, some_year}
-use Rattle.zone_spans.proofs.SoundLemmas.{year_at, year_more}
+use Rattle.std.proofs.{Common.{◌≡◌, false, sym, ap, ◌∙◌, subst, arith, rules, w64, SFits}, lemmas.Int.{to_z-of_z}}
+use Rattle.zone_spans.{specs.Faults.{is_outside, some_year}, proofs.SoundLemmas.{year_at, year_more}}
 use Rattle.zone_spans.proofs.fault.is_outside_in_some_year.Goals as goal
 
 pub returns-then-is_outside : goal.returns-then-is_outside

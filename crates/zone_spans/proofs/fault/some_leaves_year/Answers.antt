@@ -1,7 +1,5 @@
-use Rattle.std.proofs.Common.{◌≡◌, length, drop, sym, ◌∙◌, subst, arith}
-use Rattle.std.specs.List.{list_any}
-use Rattle.zone_spans.specs.Faults.{leaves_year_over}
-use Rattle.zone_spans.proofs.SoundLemmas.{any_here, any_behind, any_nowhere}
+use Rattle.std.{proofs.Common.{◌≡◌, length, drop, sym, ◌∙◌, subst, arith}, specs.List.{list_any}}
+use Rattle.zone_spans.{specs.Faults.{leaves_year_over}, proofs.SoundLemmas.{any_here, any_behind, any_nowhere}}
 use Rattle.zone_spans.proofs.fault.some_leaves_year.Goals as goal
 
 pub returns-then-branch : goal.returns-then-branch

@@ -1,8 +1,5 @@
-use Rattle.std.proofs.Common.{◌≡◌, drop}
-use Rattle.std.specs.List.{list_any}
-use Rattle.zone_spans.specs.Faults.{leaves_year_over}
-use Rattle.zone_spans.specs.Several.{AreAll}
-use Rattle.zone_spans.specs.TestedFor.{IsTested}
+use Rattle.std.{proofs.Common.{◌≡◌, drop}, specs.List.{list_any}}
+use Rattle.zone_spans.specs.{Faults.{leaves_year_over}, Several.{AreAll}, TestedFor.{IsTested}}
 use Rattle.zone_spans.proofs.fault.some_leaves_year.Given as goal
 
 abbrev pub invariant-loop-line : goal.invariant-loop-line

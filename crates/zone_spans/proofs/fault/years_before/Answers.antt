@@ -1,8 +1,6 @@
-use Rattle.std.proofs.Common.{◌+◌, pos, subst, ◌<ℤ◌, rules, w64, SFits}
-use Rattle.std.proofs.lemmas.Int.{to_z-of_z}
-use Rattle.zone_spans.proofs.QuietLemmas.{too_early}
+use Rattle.std.proofs.{Common.{◌+◌, pos, subst, ◌<ℤ◌, rules, w64, SFits}, lemmas.Int.{to_z-of_z}}
+use Rattle.zone_spans.{proofs.QuietLemmas.{too_early}, specs.Years.{earliest_year}}
 use Rattle.zone_spans.proofs.fault.years_before.Goals as goal
-use Rattle.zone_spans.specs.Years.{earliest_year}
 
 pub returns-in-Number-clause-before : goal.returns-in-Number-clause-before
 returns-in-Number-clause-before c i below =

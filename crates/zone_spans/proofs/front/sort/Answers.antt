@@ -1,9 +1,6 @@
-use Rattle.std.proofs.Common.{rules, ℤ}
-use Rattle.std.proofs.lemmas.Result.{IfOk-equal}
-use Rattle.std.proofs.lemmas.List.Sorted.{answers_always}
+use Rattle.std.proofs.{Common.{rules, ℤ}, lemmas.Result.{IfOk-equal}, lemmas.List.Sorted.{answers_always}}
 use Rattle.basics.specs.Sorted.{stable_sort}
-use Rattle.zone_spans.specs.Placed.{Placed}
-use Rattle.zone_spans.proofs.PlacedLemmas.{below_is}
+use Rattle.zone_spans.{specs.Placed.{Placed}, proofs.PlacedLemmas.{below_is}}
 use Rattle.zone_spans.proofs.front.sort.Goals as goal
 
 pub returns : goal.returns

@@ -1,5 +1,4 @@
-use Rattle.std.proofs.Common.{◌≡◌, drop}
-use Rattle.std.specs.List.{list_all}
+use Rattle.std.{proofs.Common.{◌≡◌, drop}, specs.List.{list_all}}
 use Rattle.zone_spans.specs.GoesOn.{ends_by_then}
 use Rattle.zone_spans.proofs.goes_on.all_end_by_then.Given as goal
 

@@ -1,6 +1,5 @@
 use Rattle.std.proofs.Common.{◌≡◌, Bool, IfOk, sym, ap, ◌∙◌, subst}
-use Rattle.zone_spans.specs.GoesOn.{goes_on}
-use Rattle.zone_spans.proofs.GoesOnLemmas.{goes_on-is, none_goes_on}
+use Rattle.zone_spans.{specs.GoesOn.{goes_on}, proofs.GoesOnLemmas.{goes_on-is, none_goes_on}}
 use Rattle.zone_spans.proofs.goes_on.goes_on.Goals as goal
 
 pub returns-in-Some : goal.returns-in-Some

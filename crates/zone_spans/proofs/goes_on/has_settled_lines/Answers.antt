@@ -1,9 +1,6 @@
-use Rattle.std.proofs.Common.{List, IsTrue, sym, ap, subst}
-use Rattle.std.specs.List.{list_all}
-use Rattle.zone_table.specs.Bounds.{is_bounded_rule}
-use Rattle.zone_table.specs.declared.rule.RuleInfo.{RuleInfo}
-use Rattle.zone_spans.specs.Lines.{Line}
-use Rattle.zone_spans.proofs.SoundLemmas.{bounded_rules}
+use Rattle.std.{proofs.Common.{List, IsTrue, sym, ap, subst}, specs.List.{list_all}}
+use Rattle.zone_table.specs.{Bounds.{is_bounded_rule}, declared.rule.RuleInfo.{RuleInfo}}
+use Rattle.zone_spans.{specs.Lines.{Line}, proofs.SoundLemmas.{bounded_rules}}
 use Rattle.zone_spans.proofs.goes_on.has_settled_lines.Goals as goal
 
 pub some_leaves-requires-clause-bounded : goal.some_leaves-requires-clause-bounded

@@ -1,7 +1,5 @@
 use Rattle.std.proofs.Common.{All, List, sym, ◌∙◌, subst}
-use Rattle.zone_spans.specs.Bounds.{IsSoundOver}
-use Rattle.zone_spans.specs.Lines.{Line}
-use Rattle.zone_spans.proofs.GoesOnLemmas.{ready_of}
+use Rattle.zone_spans.{specs.Bounds.{IsSoundOver}, specs.Lines.{Line}, proofs.GoesOnLemmas.{ready_of}}
 use Rattle.zone_spans.proofs.goes_on.last_goes_on.Goals as goal
 
 pub turns-requires-clause-sound : goal.turns-requires-clause-sound

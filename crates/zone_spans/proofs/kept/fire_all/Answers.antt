@@ -1,9 +1,5 @@
-use Rattle.std.proofs.Common.{List, None, sym, ap, ◌∙◌, subst}
-use Rattle.std.proofs.lemmas.Result.{IfOk-weaker}
-use Rattle.zone_spans.specs.Firings.{Fired, Firing, firings_of_years}
-use Rattle.zone_spans.specs.Stands.{StandsFor}
-use Rattle.zone_spans.proofs.KeptLemmas.{quiet_stands, stand_on_ok}
-use Rattle.zone_spans.proofs.QuietLemmas.{quiet_years}
+use Rattle.std.proofs.{Common.{List, None, sym, ap, ◌∙◌, subst}, lemmas.Result.{IfOk-weaker}}
+use Rattle.zone_spans.{specs.Firings.{Fired, Firing, firings_of_years}, specs.Stands.{StandsFor}, proofs.KeptLemmas.{quiet_stands, stand_on_ok}, proofs.QuietLemmas.{quiet_years}}
 use Rattle.zone_spans.proofs.kept.fire_all.Goals as goal
 
 pub fire_years-requires-clause-saving : goal.fire_years-requires-clause-saving

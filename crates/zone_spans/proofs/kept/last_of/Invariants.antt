@@ -1,5 +1,4 @@
-use Rattle.std.proofs.Common.{◌≡◌, take}
-use Rattle.std.specs.List.{last_or}
+use Rattle.std.{proofs.Common.{◌≡◌, take}, specs.List.{last_or}}
 use Rattle.zone_spans.proofs.kept.last_of.Given as goal
 
 abbrev pub invariant-loop-firing : goal.invariant-loop-firing

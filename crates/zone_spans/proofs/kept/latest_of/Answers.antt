@@ -1,9 +1,6 @@
-use Rattle.std.proofs.Common.{◌+◌, ◌≤ℤ◌, take, int_le, IsTrue, sym, ap, ◌∙◌, subst, arith, rules, to_z, of_z, w64, SFits}
-use Rattle.std.specs.List.{list_all}
-use Rattle.std.proofs.lemmas.Int.{to_z-of_z}
+use Rattle.std.{proofs.Common.{◌+◌, ◌≤ℤ◌, take, int_le, IsTrue, sym, ap, ◌∙◌, subst, arith, rules, to_z, of_z, w64, SFits}, specs.List.{list_all}, proofs.lemmas.Int.{to_z-of_z}}
 use Rattle.basics.specs.ComparisonLaws.{le_le}
-use Rattle.zone_spans.specs.Firings.{Firing}
-use Rattle.zone_spans.proofs.KeptLemmas.{at_most, latest_more}
+use Rattle.zone_spans.{specs.Firings.{Firing}, proofs.KeptLemmas.{at_most, latest_more}}
 use Rattle.zone_spans.proofs.kept.latest_of.Goals as goal
 
 pub loop-firing-preserved : goal.loop-firing-preserved

@@ -1,5 +1,4 @@
-use Rattle.std.proofs.Common.{◌≤ℤ◌, int_le, take, IsTrue}
-use Rattle.std.specs.List.{list_all}
+use Rattle.std.{proofs.Common.{◌≤ℤ◌, int_le, take, IsTrue}, specs.List.{list_all}}
 use Rattle.zone_spans.proofs.kept.latest_of.Given as goal
 
 abbrev pub invariant-loop-firing : goal.invariant-loop-firing

@@ -1,6 +1,5 @@
 use Rattle.std.proofs.Common.{sym, ap, ◌∙◌, subst}
-use Rattle.zone_spans.specs.Collapse.{without_first, collapsed, LocalEndsRise, EntryTimesDontFall}
-use Rattle.zone_spans.proofs.CollapseLemmas.{local_ends_rise, times_still_rise}
+use Rattle.zone_spans.{specs.Collapse.{without_first, collapsed, LocalEndsRise, EntryTimesDontFall}, proofs.CollapseLemmas.{local_ends_rise, times_still_rise}}
 use Rattle.zone_spans.proofs.span.collapse.Goals as goal
 
 pub returns-clause-law : goal.returns-clause-law

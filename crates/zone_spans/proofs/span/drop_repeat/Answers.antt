@@ -1,8 +1,6 @@
-use Rattle.std.proofs.Common.{◌≡◌, ◌<◌, length, sym, ◌∙◌, arith}
-use Rattle.std.proofs.lemmas.Bool.Decides.{nat_tests}
-use Rattle.zone_spans.proofs.PutLemmas.{first_goes, first_stays, none_goes}
+use Rattle.std.proofs.{Common.{◌≡◌, ◌<◌, length, sym, ◌∙◌, arith}, lemmas.Bool.Decides.{nat_tests}}
+use Rattle.zone_spans.proofs.{PutLemmas.{first_goes, first_stays, none_goes}, span.drop_repeat.Goals.{else-not-is_empty-via-then-not-is_empty+else-is_same_span, else-not-is_empty-via-else-not-is_empty}}
 use Rattle.zone_spans.proofs.span.drop_repeat.Goals as goal
-use Rattle.zone_spans.proofs.span.drop_repeat.Goals.{else-not-is_empty-via-then-not-is_empty+else-is_same_span, else-not-is_empty-via-else-not-is_empty}
 
 pub returns-then-is_same_span-clause-dropped : goal.returns-then-is_same_span-clause-dropped
 returns-then-is_same_span-clause-dropped c =

@@ -1,7 +1,5 @@
 use Rattle.std.proofs.Common.{List, All, sym, subst, arith}
-use Rattle.zone_spans.specs.Bounds.{IsSmallEntry}
-use Rattle.zone_spans.specs.Entries.{Entry}
-use Rattle.zone_spans.proofs.StepLemmas.{all_swapped}
+use Rattle.zone_spans.{specs.Bounds.{IsSmallEntry}, specs.Entries.{Entry}, proofs.StepLemmas.{all_swapped}}
 use Rattle.zone_spans.proofs.span.keep.Goals as goal
 
 pub returns-clause-bounded : goal.returns-clause-bounded

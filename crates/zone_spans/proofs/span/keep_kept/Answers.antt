@@ -1,10 +1,5 @@
-use Rattle.std.proofs.Common.{refl, ◌≡◌, List, All, length, take, drop, reverse, [], sym, ◌∙◌, subst, arith}
-use Rattle.std.proofs.lemmas.List.Elements.{All-take}
-use Rattle.zone_spans.specs.Bounds.{IsSmallEntry}
-use Rattle.zone_spans.specs.Collapse.{kept_of}
-use Rattle.zone_spans.specs.Entries.{Entry}
-use Rattle.zone_spans.proofs.BoundLemmas.{small_entries, bounded_entries}
-use Rattle.zone_spans.proofs.StepLemmas.{kept_more_of, kept_all}
+use Rattle.std.proofs.{Common.{refl, ◌≡◌, List, All, length, take, drop, reverse, [], sym, ◌∙◌, subst, arith}, lemmas.List.Elements.{All-take}}
+use Rattle.zone_spans.{specs.Bounds.{IsSmallEntry}, specs.Collapse.{kept_of}, specs.Entries.{Entry}, proofs.BoundLemmas.{small_entries, bounded_entries}, proofs.StepLemmas.{kept_more_of, kept_all}}
 use Rattle.zone_spans.proofs.span.keep_kept.Goals as goal
 
 pub loop-i-init : goal.loop-i-init

@@ -1,6 +1,5 @@
 use Rattle.std.proofs.Common.{◌≡◌, ◌≤◌, [], length, reverse, take, drop, All}
-use Rattle.zone_spans.specs.Bounds.{IsSmallEntry}
-use Rattle.zone_spans.specs.Collapse.{kept_of}
+use Rattle.zone_spans.specs.{Bounds.{IsSmallEntry}, Collapse.{kept_of}}
 use Rattle.zone_spans.proofs.span.keep_kept.Given as goal
 
 abbrev pub invariant-loop-i : goal.invariant-loop-i

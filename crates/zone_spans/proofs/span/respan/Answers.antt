@@ -1,10 +1,5 @@
-use Rattle.std.proofs.Common.{List, All, ap, length, sym, subst, arith, rules, to_z, of_z, w64, SFits}
-use Rattle.std.proofs.lemmas.List.Elements.{All-set}
-use Rattle.std.proofs.lemmas.Int.{ints}
-use Rattle.zone_spans.specs.Bounds.{IsSmallEntry}
-use Rattle.zone_spans.specs.Entries.{Entry}
-use Rattle.zone_spans.proofs.StepLemmas.{all_swapped}
-use Rattle.zone_spans.proofs.PutLemmas.{respanned, swapped_len}
+use Rattle.std.proofs.{Common.{List, All, ap, length, sym, subst, arith, rules, to_z, of_z, w64, SFits}, lemmas.List.Elements.{All-set}, lemmas.Int.{ints}}
+use Rattle.zone_spans.{specs.Bounds.{IsSmallEntry}, specs.Entries.{Entry}, proofs.StepLemmas.{all_swapped}, proofs.PutLemmas.{respanned, swapped_len}}
 use Rattle.zone_spans.proofs.span.respan.Goals as goal
 
 pub returns-clause-put : goal.returns-clause-put

@@ -1,9 +1,8 @@
 use Rattle.std.proofs.Common.{◌≡◌, ℕ, ◌+◌, ◌-◌, ◌<◌, Bool, true, false, length, get_or, List, sym, ap, ◌∙◌, arith}
-use Rattle.zone_spans.specs.Collapse.{is_same_span, is_no_later}
-use Rattle.zone_spans.specs.Entries.{Entry}
+use Rattle.zone_spans.specs.{Collapse.{is_same_span, is_no_later}, Entries.{Entry}}
 use Rattle.zone_spans.proofs.StepLemmas.{respan_step, drop_step, keep_step, read_at, zero_entry}
-use Rattle.zone_spans.proofs.span.step.Goals as goal
 use Rattle.zone_spans.proofs.span.step.Goals.{else-kept-ge2-via-then-kept-ge2+else-is_no_later, else-kept-ge2-via-else-kept-ge2, else-kept-ge1-via-then-kept-ge1+else-is_same_span, else-kept-ge1-via-else-kept-ge1}
+use Rattle.zone_spans.proofs.span.step.Goals as goal
 
 -- the test of what was read, at the places
 late_at : (xs : List Entry) (i p q : ℕ) (e k j : Entry) (b : Bool) → i < length xs → p < length xs → q < length xs

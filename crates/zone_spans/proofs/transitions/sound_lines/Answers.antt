@@ -1,7 +1,5 @@
-use Rattle.std.proofs.Common.{sym, ap, ◌∙◌}
-use Rattle.std.specs.FinMap.{get}
-use Rattle.zone_spans.specs.Faults.{line_fault}
-use Rattle.zone_spans.proofs.CompiledLemmas.{unknown_due, fault_due, rest_due, all_sound}
+use Rattle.std.{proofs.Common.{sym, ap, ◌∙◌}, specs.FinMap.{get}}
+use Rattle.zone_spans.{specs.Faults.{line_fault}, proofs.CompiledLemmas.{unknown_due, fault_due, rest_due, all_sound}}
 use Rattle.zone_spans.proofs.transitions.sound_lines.Goals as goal
 
 pub returns-clause-err : goal.returns-clause-err

@@ -1,11 +1,5 @@
-use Rattle.std.proofs.Common.{not, List, IsTrue, ap, sym, subst, arith}
-use Rattle.std.specs.FinMap.{get}
-use Rattle.std.specs.List.{list_all}
-use Rattle.zone_spans.specs.Bounds.{is_bounded_line}
-use Rattle.zone_spans.specs.Faults.{is_unknown}
-use Rattle.zone_spans.specs.Lines.{Line, zone_lines}
-use Rattle.zone_spans.proofs.LineLemmas.{line_bounded, lines_more, one_line_more}
-use Rattle.zone_spans.proofs.SoundLemmas.{any_behind}
+use Rattle.std.{proofs.Common.{not, List, IsTrue, ap, sym, subst, arith}, specs.FinMap.{get}, specs.List.{list_all}}
+use Rattle.zone_spans.{specs.Bounds.{is_bounded_line}, specs.Faults.{is_unknown}, specs.Lines.{Line, zone_lines}, proofs.LineLemmas.{line_bounded, lines_more, one_line_more}, proofs.SoundLemmas.{any_behind}}
 use Rattle.zone_spans.proofs.transitions.zone_lines.Goals as goal
 
 pub loop-i-preserved : goal.loop-i-preserved

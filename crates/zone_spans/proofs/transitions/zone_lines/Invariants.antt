@@ -1,9 +1,5 @@
-use Rattle.std.proofs.Common.{◌≡◌, ◌++◌, drop, IsTrue}
-use Rattle.std.specs.FinMap.{get}
-use Rattle.std.specs.List.{list_all, list_any}
-use Rattle.zone_spans.specs.Bounds.{is_bounded_line}
-use Rattle.zone_spans.specs.Faults.{is_unknown}
-use Rattle.zone_spans.specs.Lines.{zone_lines}
+use Rattle.std.{proofs.Common.{◌≡◌, ◌++◌, drop, IsTrue}, specs.FinMap.{get}, specs.List.{list_all, list_any}}
+use Rattle.zone_spans.specs.{Bounds.{is_bounded_line}, Faults.{is_unknown}, Lines.{zone_lines}}
 use Rattle.zone_spans.proofs.transitions.zone_lines.Given as goal
 
 abbrev pub invariant-loop-i : goal.invariant-loop-i

@@ -1,7 +1,5 @@
 use Rattle.std.proofs.Common.{◌-◌, ◌&&◌, length, reverse, sym, ◌∙◌, subst, arith}
-use Rattle.zone_spans.specs.Bounds.{IsSmallEntry}
-use Rattle.zone_spans.proofs.BoundLemmas.{small_entries}
-use Rattle.zone_spans.proofs.GoesOnLemmas.{kept_short, later_is, later_short}
+use Rattle.zone_spans.{specs.Bounds.{IsSmallEntry}, proofs.BoundLemmas.{small_entries}, proofs.GoesOnLemmas.{kept_short, later_is, later_short}}
 use Rattle.zone_spans.proofs.turns.are_cycle_later.Goals as goal
 
 pub returns-in_default : goal.returns-in_default

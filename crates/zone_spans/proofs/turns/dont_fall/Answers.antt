@@ -1,7 +1,5 @@
-use Rattle.std.proofs.Common.{◌≡◌, ◌+◌, ◌-◌, drop, get_or, sym, ◌∙◌, subst, arith}
-use Rattle.std.proofs.lemmas.List.{length-drop}
-use Rattle.zone_spans.specs.GoesOn.{dont_fall}
-use Rattle.zone_spans.proofs.GoesOnLemmas.{falls_here, rises_here, short_rises}
+use Rattle.std.proofs.{Common.{◌≡◌, ◌+◌, ◌-◌, drop, get_or, sym, ◌∙◌, subst, arith}, lemmas.List.{length-drop}}
+use Rattle.zone_spans.{specs.GoesOn.{dont_fall}, proofs.GoesOnLemmas.{falls_here, rises_here, short_rises}}
 use Rattle.zone_spans.proofs.turns.dont_fall.Goals as goal
 
 pub returns-then-is_sooner : goal.returns-then-is_sooner

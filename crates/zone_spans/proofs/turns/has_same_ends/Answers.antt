@@ -1,6 +1,5 @@
 use Rattle.std.proofs.Common.{◌∙◌, ◌&&◌}
-use Rattle.zone_spans.specs.GoesOn.{are_cycle_later, is_apart}
-use Rattle.zone_spans.proofs.GoesOnLemmas.{kept_is}
+use Rattle.zone_spans.{specs.GoesOn.{are_cycle_later, is_apart}, proofs.GoesOnLemmas.{kept_is}}
 use Rattle.zone_spans.proofs.turns.has_same_ends.Goals as goal
 
 pub returns : goal.returns

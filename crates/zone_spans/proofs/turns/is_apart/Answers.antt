@@ -1,6 +1,5 @@
 use Rattle.std.proofs.Common.{◌-◌, length, sym, subst, arith}
-use Rattle.zone_spans.specs.Bounds.{IsSmallEntry}
-use Rattle.zone_spans.proofs.BoundLemmas.{small_entries}
+use Rattle.zone_spans.{specs.Bounds.{IsSmallEntry}, proofs.BoundLemmas.{small_entries}}
 use Rattle.zone_spans.proofs.turns.is_apart.Goals as goal
 
 pub is_no_later-requires-clause-entry : goal.is_no_later-requires-clause-entry

@@ -1,5 +1,4 @@
-use Rattle.std.proofs.Common.{◌≡◌, drop, not, int_lt}
-use Rattle.std.specs.List.{list_all}
+use Rattle.std.{proofs.Common.{◌≡◌, drop, not, int_lt}, specs.List.{list_all}}
 use Rattle.zone_spans.proofs.turns.none_after.Given as goal
 
 abbrev pub invariant-loop-entry : goal.invariant-loop-entry

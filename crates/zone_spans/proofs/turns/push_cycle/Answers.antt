@@ -1,5 +1,4 @@
-use Rattle.zone_spans.proofs.GoesOnLemmas.{bounded_cycle}
-use Rattle.zone_spans.proofs.SoundLemmas.{bounded_offset}
+use Rattle.zone_spans.proofs.{GoesOnLemmas.{bounded_cycle}, SoundLemmas.{bounded_offset}}
 use Rattle.zone_spans.proofs.turns.push_cycle.Goals as goal
 
 pub returns-clause-bounded : goal.returns-clause-bounded

@@ -1,6 +1,5 @@
 use Rattle.std.proofs.Common.{◌≡◌, IfOk, Option, None, ℤ, sym, ap, ◌∙◌, subst}
-use Rattle.zone_spans.specs.Later.{start_after}
-use Rattle.zone_spans.proofs.GoesOnLemmas.{no_start, start_is}
+use Rattle.zone_spans.{specs.Later.{start_after}, proofs.GoesOnLemmas.{no_start, start_is}}
 use Rattle.zone_spans.proofs.turns.start_after.Goals as goal
 
 pub returns-in-Some : goal.returns-in-Some

@@ -1,5 +1,4 @@
-use Rattle.std.proofs.Common.{arith}
-use Rattle.std.proofs.lemmas.Int.{ints}
+use Rattle.std.proofs.{Common.{arith}, lemmas.Int.{ints}}
 use Rattle.zone_table.proofs.SecondsLemmas.{small_seconds}
 use Rattle.zone_table.proofs.rule.after_days.Goals as goal
 

@@ -1,7 +1,5 @@
-use Rattle.std.proofs.Common.{arith}
-use Rattle.std.proofs.lemmas.Int.{ints}
-use Rattle.zone_table.specs.Moments.{instant_of}
-use Rattle.zone_table.proofs.SecondsLemmas.{small_seconds}
+use Rattle.std.proofs.{Common.{arith}, lemmas.Int.{ints}}
+use Rattle.zone_table.{specs.Moments.{instant_of}, proofs.SecondsLemmas.{small_seconds}}
 use Rattle.zone_table.proofs.rule.instant_of.Goals as goal
 
 pub returns-in-UTC : goal.returns-in-UTC

@@ -1,12 +1,6 @@
-use Rattle.std.proofs.Common.{rules, ◌≡◌, ◌++◌, ◌∷◌, [], sym, ap, ◌∙◌, append_assoc, map as each}
-use Rattle.std.specs.Slice.Iter.{chunk_by_rest, chunk_by_callee}
-use Rattle.std.specs.Str.{bytes_eq}
-use Rattle.std.proofs.lemmas.List.{append-nil, map-append}
-use Rattle.std.proofs.lemmas.List.Sorted.{answers_always}
-use Rattle.zone_table.specs.NameTree.{tree_of}
-use Rattle.zone_table.specs.Shown.{entry_value}
-use Rattle.zone_table.specs.Placed.{placed_value}
-use Rattle.zone_table.proofs.TreeLemmas.{run_step, tree_of_nothing}
+use Rattle.std.proofs.{Common.{rules, ◌≡◌, ◌++◌, ◌∷◌, [], sym, ap, ◌∙◌, append_assoc, map as each}, lemmas.List.{append-nil, map-append}, lemmas.List.Sorted.{answers_always}}
+use Rattle.std.specs.{Slice.Iter.{chunk_by_rest, chunk_by_callee}, Str.{bytes_eq}}
+use Rattle.zone_table.{specs.NameTree.{tree_of}, specs.Shown.{entry_value}, specs.Placed.{placed_value}, proofs.TreeLemmas.{run_step, tree_of_nothing}}
 use Rattle.zone_table.proofs.structure.entries_of.Goals as goal
 
 pub loop-run-preserved : goal.loop-run-preserved

@@ -1,9 +1,5 @@
-use Rattle.std.proofs.Common.{◌≡◌, ◌++◌, map as each}
-use Rattle.std.specs.List.Sorted.{IsStrictlySortedBy}
-use Rattle.std.specs.Slice.Iter.{chunk_by_rest}
-use Rattle.zone_table.specs.NameTree.{tree_of}
-use Rattle.zone_table.specs.Shown.{entry_value}
-use Rattle.zone_table.specs.Placed.{placed_cmp, placed_value}
+use Rattle.std.{proofs.Common.{◌≡◌, ◌++◌, map as each}, specs.List.Sorted.{IsStrictlySortedBy}, specs.Slice.Iter.{chunk_by_rest}}
+use Rattle.zone_table.specs.{NameTree.{tree_of}, Shown.{entry_value}, Placed.{placed_cmp, placed_value}}
 use Rattle.zone_table.proofs.structure.entries_of.Given as goal
 
 -- the children that are left are in order, and their entries are those that are missing

@@ -1,8 +1,5 @@
-use Rattle.std.proofs.Common.{rules, ◌≡◌, ◌∙◌, Ok, map as each}
-use Rattle.std.proofs.lemmas.Iterator.{YieldsList-from_map_by, YieldsList-from_slice}
-use Rattle.std.proofs.lemmas.Iterator.Consumers.{map_from_collect, YieldsList-at}
-use Rattle.zone_table.proofs.TreeLemmas.{shown_children}
-use Rattle.zone_table.specs.Shown.{child_value}
+use Rattle.std.proofs.{Common.{rules, ◌≡◌, ◌∙◌, Ok, map as each}, lemmas.Iterator.{YieldsList-from_map_by, YieldsList-from_slice}, lemmas.Iterator.Consumers.{map_from_collect, YieldsList-at}}
+use Rattle.zone_table.{proofs.TreeLemmas.{shown_children}, specs.Shown.{child_value}}
 use Rattle.zone_table.proofs.structure.entry_of.Goals as goal
 
 pub returns : goal.returns

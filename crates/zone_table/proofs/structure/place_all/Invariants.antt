@@ -1,8 +1,5 @@
-use Rattle.std.proofs.Common.{◌≡◌, take, map as each}
-use Rattle.std.specs.List.{flat_map}
-use Rattle.std.specs.Map.Iter.{deref}
-use Rattle.zone_table.specs.NameTree.{children_in}
-use Rattle.zone_table.specs.Placed.{placed_value}
+use Rattle.std.{proofs.Common.{◌≡◌, take, map as each}, specs.List.{flat_map}, specs.Map.Iter.{deref}}
+use Rattle.zone_table.specs.{NameTree.{children_in}, Placed.{placed_value}}
 use Rattle.zone_table.proofs.structure.place_all.Given as goal
 
 -- the children of the names so far

@@ -1,7 +1,5 @@
-use Rattle.std.proofs.Common.{rules, ◌≡◌, None, lit<}
-use Rattle.std.proofs.lemmas.Str.Pattern.{split_once_first}
-use Rattle.zone_table.specs.NameTree.{submodule_of}
-use Rattle.zone_table.proofs.SlashLemmas.{first_uncut}
+use Rattle.std.proofs.{Common.{rules, ◌≡◌, None, lit<}, lemmas.Str.Pattern.{split_once_first}}
+use Rattle.zone_table.{specs.NameTree.{submodule_of}, proofs.SlashLemmas.{first_uncut}}
 use Rattle.zone_table.proofs.structure.submodule.Goals as goal
 
 pub returns-in_err-front : goal.returns-in_err-front

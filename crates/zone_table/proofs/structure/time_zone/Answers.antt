@@ -1,6 +1,5 @@
 use Rattle.std.proofs.Common.{rules, ◌≡◌, ◌≤◌, Some, None, ◌∙◌, arith, length}
-use Rattle.zone_table.specs.NameTree.{time_zone_of, time_zone}
-use Rattle.zone_table.proofs.SlashLemmas.{last_uncut, last_cut}
+use Rattle.zone_table.{specs.NameTree.{time_zone_of, time_zone}, proofs.SlashLemmas.{last_uncut, last_cut}}
 use Rattle.zone_table.proofs.structure.time_zone.Goals as goal
 
 pub returns-in_err-part : goal.returns-in_err-part

@@ -1,9 +1,5 @@
-use Rattle.std.proofs.Common.{◌≡◌, IfOk, string_bytes, Bor, ℕ, List, Result, Ok, Err, codes, refl}
-use Rattle.std.specs.declared.string.String.{String}
-use Rattle.std.specs.Str.Pattern.{FindsText}
-use Rattle.std.specs.Str.Replace.{ReplacesMatches}
-use Rattle.zone_table.specs.Formats.{filled}
-use Rattle.zone_table.proofs.FilledLemmas.{replaced}
+use Rattle.std.{proofs.Common.{◌≡◌, IfOk, string_bytes, Bor, ℕ, List, Result, Ok, Err, codes, refl}, specs.declared.string.String.{String}, specs.Str.Pattern.{FindsText}, specs.Str.Replace.{ReplacesMatches}}
+use Rattle.zone_table.{specs.Formats.{filled}, proofs.FilledLemmas.{replaced}}
 use Rattle.zone_table.proofs.zone.filled.Goals as goal
 
 by_text : {Y E : Type 0} (letters pattern : Bor (List ℕ)) (text : List ℕ) (result : Result (String Y) E) → pattern.now ≡ codes "%s"

@@ -1,9 +1,5 @@
-use Rattle.std.proofs.Common.{◌≡◌, ℕ, Bool, true, false, List, sym, ap, ◌∙◌, ◌↔◌, codes, inl, inr}
-use Rattle.std.proofs.lemmas.Bool.{cases_Bool}
-use Rattle.std.proofs.lemmas.Str.Pattern.{contains_text}
-use Rattle.std.specs.Str.Iter.{HasSubslice}
-use Rattle.zone_table.specs.Formats.{has_placeholder}
-use Rattle.zone_table.proofs.FormatLemmas.{has_placeholder-within, placeholder_within}
+use Rattle.std.{proofs.Common.{◌≡◌, ℕ, Bool, true, false, List, sym, ap, ◌∙◌, ◌↔◌, codes, inl, inr}, proofs.lemmas.Bool.{cases_Bool}, proofs.lemmas.Str.Pattern.{contains_text}, specs.Str.Iter.{HasSubslice}}
+use Rattle.zone_table.{specs.Formats.{has_placeholder}, proofs.FormatLemmas.{has_placeholder-within, placeholder_within}}
 use Rattle.zone_table.proofs.zone.has_placeholder.Goals as goal
 
 agree : (result : Bool) (text : List ℕ) → (result ≡ true) ↔ HasSubslice text (codes "%s") → result ≡ has_placeholder text

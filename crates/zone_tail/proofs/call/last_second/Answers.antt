@@ -1,11 +1,7 @@
-use Rattle.std.proofs.Common.{◌≡◌, ℤ, pos, ◌-ℤ◌, w64, to_z, of_z, to_z-of_z, FitsSigned, rules, sym, subst, ◌∙◌, arith}
-use Rattle.std.proofs.lemmas.Int.{ints}
-use Rattle.zone_tail.specs.LastYear.{standard_of, year_end}
-use Rattle.zone_tail.specs.Ready.{IsReady}
-use Rattle.civil_base.specs.RangeLaws.{offset_greatest, offset_least}
-use Rattle.civil_base.specs.Ranges.{IsOffset}
-use Rattle.zone_tail.proofs.ReadyLemmas.{ready_before_entry, ready_far, standard_small, yearly_ready}
+use Rattle.std.proofs.{Common.{◌≡◌, ℤ, pos, ◌-ℤ◌, w64, to_z, of_z, to_z-of_z, FitsSigned, rules, sym, subst, ◌∙◌, arith}, lemmas.Int.{ints}}
+use Rattle.zone_tail.{specs.LastYear.{standard_of, year_end}, specs.Ready.{IsReady}, proofs.ReadyLemmas.{ready_before_entry, ready_far, standard_small, yearly_ready}}
 use Rattle.zone_tail.proofs.call.last_second.Goals as goal
+use Rattle.civil_base.specs.{RangeLaws.{offset_greatest, offset_least}, Ranges.{IsOffset}}
 
 difference : (o p : ℤ) → FitsSigned w64 o → o ≡ p → IsOffset p → FitsSigned w64 (pos 4102444800 -ℤ to_z w64 (of_z w64 o))
 difference o p fits is small = omega (arith, ints, is, offset_least p small, offset_greatest p small)

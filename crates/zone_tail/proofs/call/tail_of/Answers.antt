@@ -1,10 +1,6 @@
 use Rattle.std.proofs.Common.{sym, subst}
 use Rattle.tz_zone.specs.Sets.{schedule_of}
-use Rattle.zone_tail.specs.Agreement.{Agrees}
-use Rattle.zone_tail.specs.Candidates.{IsAllowed}
-use Rattle.zone_tail.specs.LastYear.{form}
-use Rattle.zone_tail.specs.Tails.{end_of_last_year, names_of}
-use Rattle.zone_tail.proofs.CarryLemmas.{carries_on}
+use Rattle.zone_tail.{specs.Agreement.{Agrees}, specs.Candidates.{IsAllowed}, specs.LastYear.{form}, specs.Tails.{end_of_last_year, names_of}, proofs.CarryLemmas.{carries_on}}
 use Rattle.zone_tail.proofs.call.tail_of.Goals as goal
 
 pub returns-clause-read : goal.returns-clause-read

@@ -1,9 +1,5 @@
-use Rattle.std.proofs.Common.{List, ◌∷◌, [], ◌++◌, to_z-of_z, ap, ◌∙◌}
-use Rattle.std.proofs.lemmas.List.{append_assoc}
-use Rattle.std.proofs.lemmas.Result.{on_ok_weaker}
-use Rattle.zone_tail.specs.Tails.{rule_with}
-use Rattle.zone_tail.specs.declared.candidate.Candidate.{Candidate}
-use Rattle.zone_tail.specs.declared.candidate.Candidate.TheVariants.{Ruled}
+use Rattle.std.proofs.{Common.{List, ◌∷◌, [], ◌++◌, to_z-of_z, ap, ◌∙◌}, lemmas.List.{append_assoc}, lemmas.Result.{on_ok_weaker}}
+use Rattle.zone_tail.specs.{Tails.{rule_with}, declared.candidate.Candidate.{Candidate}, declared.candidate.Candidate.TheVariants.{Ruled}}
 use Rattle.zone_tail.proofs.candidates.add_rules.Goals as goal
 
 pub returns-in_ok-add_rule-in-Some : goal.returns-in_ok-add_rule-in-Some

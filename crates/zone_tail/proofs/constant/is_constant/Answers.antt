@@ -1,5 +1,4 @@
-use Rattle.std.proofs.Common.{◌∙◌, to_z-of_z, refl, arith}
-use Rattle.std.proofs.lemmas.Int.{ints}
+use Rattle.std.proofs.{Common.{◌∙◌, to_z-of_z, refl, arith}, lemmas.Int.{ints}}
 use Rattle.zone_tail.proofs.constant.is_constant.Goals as goal
 
 pub returns : goal.returns

@@ -1,10 +1,6 @@
 use Rattle.std.proofs.Common.{cond, Some, w64, to_z-of_z, FitsSigned, rules, sym, ap, ◌∙◌, arith}
 use Rattle.zone_spans.specs.declared.span.FixedTimespan.{FixedTimespan}
-use Rattle.zone_tail.specs.LastYear.{standard_of}
-use Rattle.zone_tail.specs.Tails.{can_be_written, fault_of, is_name, named_or}
-use Rattle.zone_tail.specs.declared.outcome.TailFault.TheVariants.{OffsetRange}
-use Rattle.zone_tail.proofs.ReadyLemmas.{total_of_span-is}
-use Rattle.zone_tail.proofs.SpanLemmas.{length-shifts}
+use Rattle.zone_tail.{specs.LastYear.{standard_of}, specs.Tails.{can_be_written, fault_of, is_name, named_or}, specs.declared.outcome.TailFault.TheVariants.{OffsetRange}, proofs.ReadyLemmas.{total_of_span-is}, proofs.SpanLemmas.{length-shifts}}
 use Rattle.zone_tail.proofs.faults.fault_in.Goals as goal
 
 pub returns-in-Steady : goal.returns-in-Steady

@@ -1,12 +1,7 @@
-use Rattle.std.proofs.Common.{◌≡◌, suc, ◌+◌, ℤ, pos, ◌+ℤ◌, ◌≤ℤ◌, neg_ℤ, int_lt, w64, to_z, of_z, to_z-of_z, FitsSigned, rules, subst, sym, ap, ◌∙◌, arith}
-use Rattle.std.proofs.lemmas.List.Elements.{All-get_or}
-use Rattle.std.proofs.lemmas.Int.{ints}
+use Rattle.std.proofs.{Common.{◌≡◌, suc, ◌+◌, ℤ, pos, ◌+ℤ◌, ◌≤ℤ◌, neg_ℤ, int_lt, w64, to_z, of_z, to_z-of_z, FitsSigned, rules, subst, sym, ap, ◌∙◌, arith}, lemmas.List.Elements.{All-get_or}, lemmas.Int.{ints}}
 use Rattle.zone_spans.specs.Entries.{total}
-use Rattle.tz_zone.specs.Sets.{IsSpanTime, shifts_of, total_of_span}
-use Rattle.tz_zone.specs.Spans.{shift_at}
-use Rattle.zone_tail.specs.Shapes.{entry_in}
-use Rattle.zone_tail.proofs.ShapeLemmas.{shift_is}
-use Rattle.zone_tail.proofs.SpanLemmas.{length-shifts}
+use Rattle.tz_zone.specs.{Sets.{IsSpanTime, shifts_of, total_of_span}, Spans.{shift_at}}
+use Rattle.zone_tail.{specs.Shapes.{entry_in}, proofs.ShapeLemmas.{shift_is}, proofs.SpanLemmas.{length-shifts}}
 use Rattle.zone_tail.proofs.last_year.ends_before.Goals as goal
 
 sum_fits : (t o : ℤ) → IsSpanTime t → neg_ℤ (pos 93599) ≤ℤ o → o ≤ℤ pos 93599 → FitsSigned w64 (to_z w64 (of_z w64 t) +ℤ to_z w64 (of_z w64 o))

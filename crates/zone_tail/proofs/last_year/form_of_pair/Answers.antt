@@ -1,7 +1,5 @@
 use Rattle.std.proofs.Common.{to_z-of_z, sym, ap, ◌∙◌}
-use Rattle.zone_tail.specs.LastYear.{are_start_and_end}
-use Rattle.zone_tail.specs.Shapes.{entry_in}
-use Rattle.zone_tail.proofs.FormLemmas.{starts_first, ends_first, neither}
+use Rattle.zone_tail.{specs.LastYear.{are_start_and_end}, specs.Shapes.{entry_in}, proofs.FormLemmas.{starts_first, ends_first, neither}}
 use Rattle.zone_tail.proofs.last_year.form_of_pair.Goals as goal
 
 pub returns-then-are_start_and_end : goal.returns-then-are_start_and_end

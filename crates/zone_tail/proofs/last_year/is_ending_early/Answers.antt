@@ -1,6 +1,5 @@
 use Rattle.std.proofs.Common.{sym, ap, subst, ◌∙◌}
-use Rattle.zone_tail.specs.Shapes.{IsForm}
-use Rattle.zone_tail.specs.Tails.{ends_early, is_ending_early}
+use Rattle.zone_tail.specs.{Shapes.{IsForm}, Tails.{ends_early, is_ending_early}}
 use Rattle.zone_tail.proofs.last_year.is_ending_early.Goals as goal
 
 pub returns-in-Yearly : goal.returns-in-Yearly

@@ -1,10 +1,6 @@
-use Rattle.std.proofs.Common.{ℤ, ◌-ℤ◌, w64, to_z-of_z, FitsSigned, rules, sym, ap, subst, ◌∙◌}
-use Rattle.std.specs.Prelude.{nat_lt}
+use Rattle.std.{proofs.Common.{ℤ, ◌-ℤ◌, w64, to_z-of_z, FitsSigned, rules, sym, ap, subst, ◌∙◌}, specs.Prelude.{nat_lt}}
 use Rattle.tz_zone.specs.Sets.{shifts_of}
-use Rattle.zone_tail.specs.LastYear.{year_end}
-use Rattle.zone_tail.specs.Tails.{is_outlasting}
-use Rattle.zone_tail.specs.Totals.{IsCount}
-use Rattle.zone_tail.proofs.ShapeLemmas.{later_is}
+use Rattle.zone_tail.{specs.LastYear.{year_end}, specs.Tails.{is_outlasting}, specs.Totals.{IsCount}, proofs.ShapeLemmas.{later_is}}
 use Rattle.zone_tail.proofs.last_year.is_outlasting.Goals as goal
 
 pub returns : goal.returns

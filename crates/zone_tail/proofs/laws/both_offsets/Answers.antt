@@ -1,18 +1,10 @@
 -- What a set's string is parsed as is the zone that it stands for.
 use Rattle.std.proofs.Common.{◌≡◌, ℕ, List, Option, Ok, ℤ, sym, ap, ◌∙◌, Some, subst}
-use Rattle.tz_zone.specs.declared.set.FixedTimespanSet.{FixedTimespanSet}
-use Rattle.tz_posix.specs.Parses.{IsParsed}
-use Rattle.tz_posix.specs.PosixShown.{posix_of}
-use Rattle.tz_posix.specs.Resolved.{resolved}
-use Rattle.tz_posix.specs.Spells.{Spells}
-use Rattle.tz_posix.specs.Values.{TzValue}
-use Rattle.tz_posix.specs.declared.posix.PosixTz.{PosixTz}
+use Rattle.tz_zone.specs.{declared.set.FixedTimespanSet.{FixedTimespanSet}, Zones.{set_of}}
+use Rattle.tz_posix.specs.{Parses.{IsParsed}, PosixShown.{posix_of}, Resolved.{resolved}, Spells.{Spells}, Values.{TzValue}, declared.posix.PosixTz.{PosixTz}, Offsets.{given_of}, PosixZones.{Gives, posix_refusal}}
 use Rattle.zone_tail.specs.Carried.{CarriesOn}
-use Rattle.civil_base.specs.DateTimes.{instant}
-use Rattle.tz_zone.specs.Zones.{set_of}
-use Rattle.tz_posix.specs.Offsets.{given_of}
-use Rattle.tz_posix.specs.PosixZones.{Gives, posix_refusal}
 use Rattle.zone_tail.proofs.laws.both_offsets.Goals as goal
+use Rattle.civil_base.specs.DateTimes.{instant}
 
 one_zone : (set : FixedTimespanSet) (from : Option ℤ) (text : List ℕ) (zones : List FixedTimespanSet) (posix : PosixTz) (carries : CarriesOn set from text)
     → IsParsed text zones (Ok posix) → ((text : List ℕ) (x y : TzValue) → Spells text x → Spells text y → x ≡ y) → posix_of posix ≡ carries.zone

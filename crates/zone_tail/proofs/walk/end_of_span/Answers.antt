@@ -1,5 +1,4 @@
-use Rattle.std.proofs.Common.{w64, FitsSigned, rules, arith}
-use Rattle.std.proofs.lemmas.Int.{ints}
+use Rattle.std.proofs.{Common.{w64, FitsSigned, rules, arith}, lemmas.Int.{ints}}
 use Rattle.zone_tail.proofs.SpanLemmas.{length-shifts}
 use Rattle.zone_tail.proofs.walk.end_of_span.Goals as goal
 

@@ -1,7 +1,6 @@
 use Rattle.std.proofs.Common.{ℕ, ◌+◌, ◌≤◌, length}
 use Rattle.tz_zone.specs.Sets.{schedule_of}
-use Rattle.zone_tail.specs.Agreement.{AgreesFrom}
-use Rattle.zone_tail.specs.Candidates.{IsAllowed}
+use Rattle.zone_tail.specs.{Agreement.{AgreesFrom}, Candidates.{IsAllowed}}
 use Rattle.zone_tail.proofs.walk.walk.Given as goal
 
 -- the spans from here on

@@ -1,8 +1,6 @@
 use Rattle.std.proofs.Common.{ap, sym, refl, ◌∙◌}
 use Rattle.tz_ever.specs.EverShown.{ever_seen}
-use Rattle.zone_tree.specs.Contents.{is_marked}
-use Rattle.zone_tree.specs.EverTrees.{marked}
-use Rattle.zone_tree.proofs.EverLemmas.{not_written}
+use Rattle.zone_tree.{specs.Contents.{is_marked}, specs.EverTrees.{marked}, proofs.EverLemmas.{not_written}}
 use Rattle.zone_tree.proofs.ever.file_of_set.Goals as goal
 
 pub returns-then-is_marked-clause-err : goal.returns-then-is_marked-clause-err

@@ -1,7 +1,6 @@
 use Rattle.std.proofs.Common.{ap, ◌∙◌, arith}
 use Rattle.zone_spans.specs.declared.span.FixedTimespan.{FixedTimespan}
-use Rattle.zone_tree.specs.Contents.{has_mark}
-use Rattle.zone_tree.proofs.EverLemmas.{mark_end, mark_found, mark_more}
+use Rattle.zone_tree.{specs.Contents.{has_mark}, proofs.EverLemmas.{mark_end, mark_found, mark_more}}
 use Rattle.zone_tree.proofs.files.is_marked.Goals as goal
 
 pub returns-then-has_mark : goal.returns-then-has_mark

@@ -1,5 +1,4 @@
-use Rattle.std.proofs.Common.{rules, of_calls, ◌∙◌}
-use Rattle.std.proofs.lemmas.Fn.{always_returns_same}
+use Rattle.std.proofs.{Common.{rules, of_calls, ◌∙◌}, lemmas.Fn.{always_returns_same}}
 use Rattle.tz_lookup.specs.Databases.{name_shown}
 use Rattle.zone_tree.proofs.FolderLemmas.{first_decides, parted, is_below}
 use Rattle.zone_tree.proofs.folder.has_front.Goals as goal

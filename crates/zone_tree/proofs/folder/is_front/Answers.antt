@@ -1,7 +1,4 @@
-use Rattle.std.proofs.Common.{map, nat_eq, sym, ◌∙◌}
-use Rattle.std.specs.Prelude.{◌||◌}
-use Rattle.std.specs.List.{starts_with}
-use Rattle.std.proofs.lemmas.List.Folds.{list_any-append}
+use Rattle.std.{proofs.Common.{map, nat_eq, sym, ◌∙◌}, specs.Prelude.{◌||◌}, specs.List.{starts_with}, proofs.lemmas.List.Folds.{list_any-append}}
 use Rattle.tz_lookup.specs.Databases.{name_shown}
 use Rattle.zone_tree.proofs.folder.is_front.Goals as goal
 

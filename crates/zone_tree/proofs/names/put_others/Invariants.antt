@@ -1,6 +1,4 @@
-use Rattle.std.proofs.Common.{◌≡◌, ◌++◌, map, take}
-use Rattle.std.specs.FinMap.{get}
-use Rattle.std.specs.Prelude.{is_some}
+use Rattle.std.{proofs.Common.{◌≡◌, ◌++◌, map, take}, specs.FinMap.{get}, specs.Prelude.{is_some}}
 use Rattle.tz_lookup.specs.Databases.{name_shown}
 use Rattle.zone_tree.specs.Names.{others}
 use Rattle.zone_tree.proofs.names.put_others.Given as goal

@@ -1,5 +1,4 @@
-use Rattle.std.proofs.Common.{sym, arith, length-take}
-use Rattle.std.proofs.lemmas.List.{take_all}
+use Rattle.std.proofs.{Common.{sym, arith, length-take}, lemmas.List.{take_all}}
 use Rattle.zone_tree.proofs.respond.front_of.Goals as goal
 
 pub slice_bounds-result-end : goal.slice_bounds-result-end

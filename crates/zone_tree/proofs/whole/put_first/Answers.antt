@@ -1,5 +1,4 @@
-use Rattle.std.proofs.Common.{ap, sym}
-use Rattle.std.specs.Option.{option_copied}
+use Rattle.std.{proofs.Common.{ap, sym}, specs.Option.{option_copied}}
 use Rattle.zone_tree.proofs.TreeLemmas.{none_first}
 use Rattle.zone_tree.proofs.whole.put_first.Goals as goal
 

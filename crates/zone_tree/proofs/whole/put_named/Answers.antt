@@ -1,6 +1,5 @@
 use Rattle.std.proofs.Common.{subst}
-use Rattle.zone_tree.specs.Told.{IsWhy}
-use Rattle.zone_tree.proofs.TreeLemmas.{one_first, refused_first}
+use Rattle.zone_tree.{specs.Told.{IsWhy}, proofs.TreeLemmas.{one_first, refused_first}}
 use Rattle.zone_tree.proofs.whole.put_named.Goals as goal
 
 pub returns-in-Ok-clause-ok : goal.returns-in-Ok-clause-ok

@@ -1,8 +1,6 @@
 use Rattle.std.proofs.Common.{subst, sym}
-use Rattle.basics.specs.InOrderLaws.{RisesStrictly, rises-keys}
-use Rattle.basics.specs.Keyed.{text_cmp}
-use Rattle.zone_tree.specs.Told.{IsWhy}
-use Rattle.zone_tree.proofs.TreeLemmas.{one_step, first_step, all_steps}
+use Rattle.basics.specs.{InOrderLaws.{RisesStrictly, rises-keys}, Keyed.{text_cmp}}
+use Rattle.zone_tree.{specs.Told.{IsWhy}, proofs.TreeLemmas.{one_step, first_step, all_steps}}
 use Rattle.zone_tree.proofs.whole.put_names.Goals as goal
 
 pub put_name-requires-clause-zones_rise : goal.put_name-requires-clause-zones_rise

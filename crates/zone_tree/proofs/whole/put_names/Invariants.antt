@@ -1,8 +1,6 @@
 use Rattle.std.proofs.Common.{map, drop}
 use Rattle.tz_lookup.specs.Databases.{name_shown}
-use Rattle.zone_tree.specs.Entries.{entry_of}
-use Rattle.zone_tree.specs.Names.{finds_by_table}
-use Rattle.zone_tree.proofs.TreeLemmas.{HasPut}
+use Rattle.zone_tree.{specs.Entries.{entry_of}, specs.Names.{finds_by_table}, proofs.TreeLemmas.{HasPut}}
 use Rattle.zone_tree.proofs.whole.put_names.Given as goal
 
 -- the entries of the names so far were put at the end, and those of the names left are to come

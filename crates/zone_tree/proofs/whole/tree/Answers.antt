@@ -1,8 +1,5 @@
-use Rattle.std.proofs.Common.{ap, sym, ◌∙◌}
-use Rattle.std.specs.Option.{option_copied}
-use Rattle.zone_tree.specs.Names.{finds_in_table}
-use Rattle.zone_tree.specs.Trees.{or_cause, tree_by}
-use Rattle.zone_tree.proofs.TreeLemmas.{tree_is, first_told, source_told}
+use Rattle.std.{proofs.Common.{ap, sym, ◌∙◌}, specs.Option.{option_copied}}
+use Rattle.zone_tree.{specs.Names.{finds_in_table}, specs.Trees.{or_cause, tree_by}, proofs.TreeLemmas.{tree_is, first_told, source_told}}
 use Rattle.zone_tree.proofs.whole.tree.Goals as goal
 
 pub returns-in-Err-clause-err : goal.returns-in-Err-clause-err

@@ -1,7 +1,5 @@
 use Rattle.std.proofs.Common.{subst, Ok, ◌≡◌}
-use Rattle.zone_tree.specs.EverTold.{IsFirstEver}
-use Rattle.zone_tree.specs.EverTrees.{OfTree}
-use Rattle.zone_tree.proofs.EverLemmas.{first_cause, source_cause, whole_tree}
+use Rattle.zone_tree.{specs.EverTold.{IsFirstEver}, specs.EverTrees.{OfTree}, proofs.EverLemmas.{first_cause, source_cause, whole_tree}}
 use Rattle.zone_tree.proofs.whole.tree_for_ever.Goals as goal
 
 pub returns-in-Err-clause-err : goal.returns-in-Err-clause-err

@@ -1,7 +1,5 @@
-use Rattle.std.proofs.Common.{map}
-use Rattle.std.specs.Option.{option_copied}
-use Rattle.zone_tree.specs.EverTold.{made_shown}
-use Rattle.zone_tree.proofs.EverLemmas.{first_ever}
+use Rattle.std.{proofs.Common.{map}, specs.Option.{option_copied}}
+use Rattle.zone_tree.{specs.EverTold.{made_shown}, proofs.EverLemmas.{first_ever}}
 use Rattle.zone_tree.proofs.whole.tree_of_table_for_ever.Goals as goal
 
 pub returns-in-Ok-clause-ok : goal.returns-in-Ok-clause-ok

@@ -1,8 +1,6 @@
-use Rattle.std.proofs.Common.{map, ap, ◌∙◌}
-use Rattle.std.specs.Option.{option_copied}
+use Rattle.std.{proofs.Common.{map, ap, ◌∙◌}, specs.Option.{option_copied}}
 use Rattle.tz_lookup.specs.Databases.{name_shown}
-use Rattle.zone_tree.specs.Names.{finds_by_table}
-use Rattle.zone_tree.proofs.TreeLemmas.{tree_put, first_kept, front_kept}
+use Rattle.zone_tree.{specs.Names.{finds_by_table}, proofs.TreeLemmas.{tree_put, first_kept, front_kept}}
 use Rattle.zone_tree.proofs.whole.tree_with.Goals as goal
 
 pub returns-clause-ok : goal.returns-clause-ok

@@ -1,7 +1,6 @@
 use Rattle.std.proofs.Common.{to_z-of_z, FitsSigned, w64, rules, ◌∙◌, sym, subst}
 use Rattle.tz_tzif.specs.FooterShown.{footer_shown}
-use Rattle.zone_tzif.specs.Agreement.{AgreesFirstFrom}
-use Rattle.zone_tzif.proofs.AnswerLemmas.{first_from, nowhere, late}
+use Rattle.zone_tzif.{specs.Agreement.{AgreesFirstFrom}, proofs.AnswerLemmas.{first_from, nowhere, late}}
 use Rattle.zone_tzif.proofs.agreeing.from_entry.Goals as goal
 
 pub returns-then-is_early : goal.returns-then-is_early

@@ -1,5 +1,4 @@
-use Rattle.std.proofs.Common.{◌≡◌, to_z-of_z, FitsSigned, w64, rules, ◌∙◌, sym}
-use Rattle.std.proofs.lemmas.Bool.{eq-eqb, eqb-true}
+use Rattle.std.proofs.{Common.{◌≡◌, to_z-of_z, FitsSigned, w64, rules, ◌∙◌, sym}, lemmas.Bool.{eq-eqb, eqb-true}}
 use Rattle.tz_tzif.specs.FooterShown.{footer_shown}
 use Rattle.zone_tzif.proofs.AnswerLemmas.{always, flat_at, none_left}
 use Rattle.zone_tzif.proofs.agreeing.is_always.Goals as goal

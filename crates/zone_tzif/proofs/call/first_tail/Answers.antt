@@ -1,8 +1,5 @@
-use Rattle.std.proofs.Common.{◌≡◌, Option, MatchOption, string_bytes, subst, ⊎_elim, arith}
-use Rattle.std.proofs.lemmas.Bool.{cases_lt}
-use Rattle.zone_tzif.specs.Tails.{CarriesForEver, CarriesNothing}
-use Rattle.zone_tzif.specs.Tried.{tried}
-use Rattle.zone_tzif.specs.declared.outcome.EverTail.{EverTail}
+use Rattle.std.proofs.{Common.{◌≡◌, Option, MatchOption, string_bytes, subst, ⊎_elim, arith}, lemmas.Bool.{cases_lt}}
+use Rattle.zone_tzif.specs.{Tails.{CarriesForEver, CarriesNothing}, Tried.{tried}, declared.outcome.EverTail.{EverTail}}
 use Rattle.zone_tzif.proofs.call.first_tail.Goals as goal
 
 pub loop-number-preserved : goal.loop-number-preserved

@@ -1,6 +1,5 @@
 use Rattle.std.proofs.Common.{ℕ, ◌<◌}
-use Rattle.zone_tzif.specs.Tails.{CarriesNothing}
-use Rattle.zone_tzif.specs.Tried.{tried}
+use Rattle.zone_tzif.specs.{Tails.{CarriesNothing}, Tried.{tried}}
 use Rattle.zone_tzif.proofs.call.first_tail.Given as goal
 
 -- the footers so far carry nothing on

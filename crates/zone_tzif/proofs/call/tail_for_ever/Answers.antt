@@ -1,5 +1,4 @@
-use Rattle.std.proofs.Common.{string_bytes, subst}
-use Rattle.std.specs.Prelude.{MatchResult}
+use Rattle.std.{proofs.Common.{string_bytes, subst}, specs.Prelude.{MatchResult}}
 use Rattle.zone_tzif.specs.Tails.{IsFaultForEver, IsTailForEver}
 use Rattle.zone_tzif.proofs.call.tail_for_ever.Goals as goal
 

@@ -1,9 +1,7 @@
 use Rattle.std.proofs.Common.{◌∙◌, ap, subst}
-use Rattle.tz_tzif.specs.Faults.{SaysInFooter}
-use Rattle.tz_tzif.specs.InForce.{told_total_at}
+use Rattle.tz_tzif.specs.{Faults.{SaysInFooter}, InForce.{told_total_at}}
 use Rattle.zone_tzif_core.specs.Zones.{ZoneValue}
-use Rattle.zone_tzif.specs.Files.{consistent_zone}
-use Rattle.zone_tzif.proofs.ConsistentLemmas.{consistent}
+use Rattle.zone_tzif.{specs.Files.{consistent_zone}, proofs.ConsistentLemmas.{consistent}}
 use Rattle.zone_tzif.proofs.carried.consistent_totals.Goals as goal
 
 pub returns : goal.returns

@@ -1,8 +1,6 @@
-use Rattle.std.proofs.Common.{◌≡◌, ◌≤◌, length, map, sym, ap, ◌∙◌, arith}
-use Rattle.std.proofs.lemmas.List.{length-map}
+use Rattle.std.proofs.{Common.{◌≡◌, ◌≤◌, length, map, sym, ap, ◌∙◌, arith}, lemmas.List.{length-map}}
 use Rattle.zone_tzif_core.specs.Tzif.{are_names}
-use Rattle.zone_tzif.specs.Causes.{kind_in}
-use Rattle.zone_tzif.proofs.CauseLemmas.{times_refuse, kinds_refuse, names_refuse, none_refuses, names_are, same_times}
+use Rattle.zone_tzif.{specs.Causes.{kind_in}, proofs.CauseLemmas.{times_refuse, kinds_refuse, names_refuse, none_refuses, names_are, same_times}}
 use Rattle.zone_tzif.proofs.causes.cause_of.Goals as goal
 
 pub returns-then-not-times : goal.returns-then-not-times

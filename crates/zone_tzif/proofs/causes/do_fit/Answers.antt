@@ -1,7 +1,5 @@
-use Rattle.std.proofs.Common.{get_or, refl, arith}
-use Rattle.zone_tzif.specs.Causes.{name_in}
-use Rattle.zone_tzif.proofs.CauseLemmas.{fits_not, fits_more, fits_end}
-use Rattle.std.proofs.Common.{ap, length}
+use Rattle.std.proofs.Common.{get_or, refl, arith, ap, length}
+use Rattle.zone_tzif.{specs.Causes.{name_in}, proofs.CauseLemmas.{fits_not, fits_more, fits_end}}
 use Rattle.zone_tzif.proofs.causes.do_fit.Goals as goal
 
 pub returns-then-left-size : goal.returns-then-left-size

@@ -1,5 +1,4 @@
-use Rattle.zone_tzif.specs.Causes.{name_in}
-use Rattle.zone_tzif.proofs.CauseLemmas.{FitsSoFar}
+use Rattle.zone_tzif.{specs.Causes.{name_in}, proofs.CauseLemmas.{FitsSoFar}}
 use Rattle.zone_tzif.proofs.causes.do_fit.Given as goal
 
 abbrev pub invariant-loop-number : goal.invariant-loop-number

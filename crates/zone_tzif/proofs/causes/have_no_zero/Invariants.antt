@@ -1,7 +1,5 @@
-use Rattle.std.specs.Prelude.{◌==◌, not}
-use Rattle.std.specs.List.{list_all}
-use Rattle.zone_tzif.specs.Causes.{name_in}
-use Rattle.zone_tzif.proofs.CauseLemmas.{AllLeft}
+use Rattle.std.specs.{Prelude.{◌==◌, not}, List.{list_all}}
+use Rattle.zone_tzif.{specs.Causes.{name_in}, proofs.CauseLemmas.{AllLeft}}
 use Rattle.zone_tzif.proofs.causes.have_no_zero.Given as goal
 
 abbrev pub invariant-loop-number : goal.invariant-loop-number

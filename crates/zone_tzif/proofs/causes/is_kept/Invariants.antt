@@ -1,7 +1,5 @@
-use Rattle.zone_tzif_core.specs.Shown.{record_shown}
-use Rattle.zone_tzif_core.specs.Tzif.{is_same}
-use Rattle.zone_tzif.specs.Causes.{kind_in}
-use Rattle.zone_tzif.proofs.CauseLemmas.{AnyLeft}
+use Rattle.zone_tzif_core.specs.{Shown.{record_shown}, Tzif.{is_same}}
+use Rattle.zone_tzif.{specs.Causes.{kind_in}, proofs.CauseLemmas.{AnyLeft}}
 use Rattle.zone_tzif.proofs.causes.is_kept.Given as goal
 
 abbrev pub invariant-loop-number : goal.invariant-loop-number

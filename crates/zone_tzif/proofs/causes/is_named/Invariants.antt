@@ -1,6 +1,5 @@
 use Rattle.std.proofs.Common.{bytes_eq}
-use Rattle.zone_tzif.specs.Causes.{name_in}
-use Rattle.zone_tzif.proofs.CauseLemmas.{AnyLeft}
+use Rattle.zone_tzif.{specs.Causes.{name_in}, proofs.CauseLemmas.{AnyLeft}}
 use Rattle.zone_tzif.proofs.causes.is_named.Given as goal
 
 abbrev pub invariant-loop-number : goal.invariant-loop-number

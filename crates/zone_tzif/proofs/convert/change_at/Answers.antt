@@ -1,8 +1,7 @@
 use Rattle.std.proofs.Common.{◌+◌, w64, to_z-of_z, FitsSigned, rules, ap, ◌∙◌}
 use Rattle.civil_base.specs.Ranges.{is_offset}
 use Rattle.zone_spans.specs.Entries.{total}
-use Rattle.zone_tzif.specs.Values.{kind_by}
-use Rattle.zone_tzif.proofs.PlaceLemmas.{change_is, span_small}
+use Rattle.zone_tzif.{specs.Values.{kind_by}, proofs.PlaceLemmas.{change_is, span_small}}
 use Rattle.zone_tzif.proofs.convert.change_at.Goals as goal
 
 pub kind_of-requires : goal.kind_of-requires

@@ -1,7 +1,6 @@
 use Rattle.std.proofs.Common.{map}
 use Rattle.zone_tzif_core.specs.Shown.{shift_shown}
-use Rattle.zone_tzif.specs.Values.{change_by}
-use Rattle.zone_tzif.proofs.PlaceLemmas.{one_more}
+use Rattle.zone_tzif.{specs.Values.{change_by}, proofs.PlaceLemmas.{one_more}}
 use Rattle.zone_tzif.proofs.convert.changes_of.Goals as goal
 
 pub loop-place-preserved : goal.loop-place-preserved

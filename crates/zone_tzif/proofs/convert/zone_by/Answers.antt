@@ -2,10 +2,7 @@ use Rattle.std.proofs.Common.{◌∙◌, ap}
 use Rattle.civil_base.specs.Ranges.{is_offset}
 use Rattle.zone_spans.specs.Entries.{total}
 use Rattle.zone_tzif_core.specs.Totals.{file_total_at}
-use Rattle.zone_tzif.specs.Values.{kind_by}
-use Rattle.zone_tzif.proofs.PlaceLemmas.{span_small}
-use Rattle.zone_tzif.proofs.TotalLemmas.{parts_are, totals_kept}
-use Rattle.zone_tzif.proofs.ValueLemmas.{value_is}
+use Rattle.zone_tzif.{specs.Values.{kind_by}, proofs.PlaceLemmas.{span_small}, proofs.TotalLemmas.{parts_are, totals_kept}, proofs.ValueLemmas.{value_is}}
 use Rattle.zone_tzif.proofs.convert.zone_by.Goals as goal
 
 pub kind_of-requires : goal.kind_of-requires

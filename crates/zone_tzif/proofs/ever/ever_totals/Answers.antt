@@ -1,9 +1,7 @@
 use Rattle.std.proofs.Common.{◌∙◌, ap, subst}
-use Rattle.tz_tzif.specs.Faults.{SaysInFooter}
-use Rattle.tz_tzif.specs.InForce.{told_total_at}
+use Rattle.tz_tzif.specs.{Faults.{SaysInFooter}, InForce.{told_total_at}}
 use Rattle.zone_tzif_core.specs.Zones.{ZoneValue}
-use Rattle.zone_tzif.specs.EverFiles.{ever_zone}
-use Rattle.zone_tzif.proofs.EverLemmas.{shows}
+use Rattle.zone_tzif.{specs.EverFiles.{ever_zone}, proofs.EverLemmas.{shows}}
 use Rattle.zone_tzif.proofs.ever.ever_totals.Goals as goal
 
 pub returns : goal.returns

@@ -1,10 +1,7 @@
 use Rattle.std.proofs.Common.{◌∙◌, ap, string_bytes, true, ◌≡◌}
 use Rattle.tz_ever.specs.EverShown.{ever_seen}
 use Rattle.zone_tzif_core.specs.Format.{is_one_line}
-use Rattle.zone_tzif.specs.Until.{until_of}
-use Rattle.zone_tzif.specs.declared.convert.Saves.TheVariants.{Any}
-use Rattle.zone_tzif.proofs.EverLemmas.{clean_tail, fault_is, file_is}
-use Rattle.zone_tzif.proofs.FileLemmas.{never_by}
+use Rattle.zone_tzif.{specs.Until.{until_of}, specs.declared.convert.Saves.TheVariants.{Any}, proofs.EverLemmas.{clean_tail, fault_is, file_is}, proofs.FileLemmas.{never_by}}
 use Rattle.zone_tzif.proofs.ever.file_with.Goals as goal
 
 pub with_footer-requires-clause-offset : goal.with_footer-requires-clause-offset

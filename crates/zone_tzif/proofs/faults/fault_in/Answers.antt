@@ -1,8 +1,7 @@
 use Rattle.std.proofs.Common.{FitsSigned, w64, rules, to_z-of_z, sym, ap, ◌∙◌}
 use Rattle.zone_spans.specs.declared.span.FixedTimespan.{FixedTimespan}
 use Rattle.zone_tail.specs.Tails.{can_be_written, is_name}
-use Rattle.zone_tzif.specs.Tried.{form_fault, written_or}
-use Rattle.zone_tzif.proofs.FormLemmas.{total_of_span-is}
+use Rattle.zone_tzif.{specs.Tried.{form_fault, written_or}, proofs.FormLemmas.{total_of_span-is}}
 use Rattle.zone_tzif.proofs.faults.fault_in.Goals as goal
 
 pub returns-in-Steady : goal.returns-in-Steady

@@ -1,7 +1,6 @@
 use Rattle.std.proofs.Common.{◌∙◌, ap}
 use Rattle.zone_tzif_core.specs.Totals.{file_total_at}
-use Rattle.zone_tzif.specs.Values.{value_by}
-use Rattle.zone_tzif.proofs.TotalLemmas.{totals_kept}
+use Rattle.zone_tzif.{specs.Values.{value_by}, proofs.TotalLemmas.{totals_kept}}
 use Rattle.zone_tzif.proofs.file.with_footer.Goals as goal
 
 pub returns-in-Ok-clause-told : goal.returns-in-Ok-clause-told

@@ -1,8 +1,7 @@
 use Rattle.std.proofs.Common.{◌≤◌, length, ◌≤ℤ◌, FitsSigned, w64, rules, to_z-of_z, subst, sym, arith}
 use Rattle.basics.specs.ComparisonLaws.{le_from_pass}
 use Rattle.tz_zone.specs.Sets.{shifts_of}
-use Rattle.zone_tzif.proofs.FormLemmas.{first_from-is}
-use Rattle.zone_tzif.proofs.StepLemmas.{length-shifts}
+use Rattle.zone_tzif.proofs.{FormLemmas.{first_from-is}, StepLemmas.{length-shifts}}
 use Rattle.zone_tzif.proofs.form.first_from.Goals as goal
 
 pub returns-then-second-time-clause-is : goal.returns-then-second-time-clause-is

@@ -1,10 +1,7 @@
 use Rattle.std.proofs.Common.{◌≡◌, suc, ◌+◌, sym, subst, ◌∙◌, arith}
 use Rattle.tz_zone.specs.Sets.{shifts_of}
 use Rattle.zone_tail.specs.Shapes.{entry_in}
-use Rattle.zone_tzif.specs.Agreement.{cycle_begin}
-use Rattle.zone_tzif.specs.Forms.{Shows}
-use Rattle.zone_tzif.specs.Tried.{first_from, form_of_two, next_year}
-use Rattle.zone_tzif.proofs.FormLemmas.{two_entries}
+use Rattle.zone_tzif.{specs.Agreement.{cycle_begin}, specs.Forms.{Shows}, specs.Tried.{first_from, form_of_two, next_year}, proofs.FormLemmas.{two_entries}}
 use Rattle.zone_tzif.proofs.form.form_of.Goals as goal
 
 pub returns-then-end-begin-eq2 : goal.returns-then-end-begin-eq2

@@ -1,7 +1,5 @@
-use Rattle.std.proofs.Common.{◌≡◌, ◌/◌, ◌+ℤ◌, ◌-ℤ◌, ◌*ℤ◌, ◌≤ℤ◌, ◌<ℤ◌, pos, to_z-of_z, sym, ap, ◌∙◌, subst}
-use Rattle.std.specs.Int.{int_div_euclid}
-use Rattle.zone_tzif.specs.Tried.{days_back}
-use Rattle.zone_tzif.proofs.DayLemmas.{begun_by, day_less, day_range, near_day, over_by}
+use Rattle.std.{proofs.Common.{◌≡◌, ◌/◌, ◌+ℤ◌, ◌-ℤ◌, ◌*ℤ◌, ◌≤ℤ◌, ◌<ℤ◌, pos, to_z-of_z, sym, ap, ◌∙◌, subst}, specs.Int.{int_div_euclid}}
+use Rattle.zone_tzif.{specs.Tried.{days_back}, proofs.DayLemmas.{begun_by, day_less, day_range, near_day, over_by}}
 use Rattle.zone_tzif.proofs.text.named_day.Goals as goal
 
 pub returns-clause-is : goal.returns-clause-is

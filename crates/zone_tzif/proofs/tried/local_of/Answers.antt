@@ -1,8 +1,6 @@
-use Rattle.std.proofs.Common.{◌+ℤ◌, ◌≤ℤ◌, ◌<ℤ◌, FitsSigned, w64, rules, to_z-of_z, sym, ap, ◌∙◌, subst}
-use Rattle.std.proofs.lemmas.Bool.{and_parts}
+use Rattle.std.proofs.{Common.{◌+ℤ◌, ◌≤ℤ◌, ◌<ℤ◌, FitsSigned, w64, rules, to_z-of_z, sym, ap, ◌∙◌, subst}, lemmas.Bool.{and_parts}}
 use Rattle.basics.specs.ComparisonLaws.{le_from_pass, lt_from_pass}
-use Rattle.zone_tzif.specs.Agreement.{cycle_begin}
-use Rattle.zone_tzif.specs.Tried.{next_year}
+use Rattle.zone_tzif.specs.{Agreement.{cycle_begin}, Tried.{next_year}}
 use Rattle.zone_tzif.proofs.tried.local_of.Goals as goal
 
 pub ahead-requires-clause-begun : goal.ahead-requires-clause-begun

@@ -1,10 +1,7 @@
 use Rattle.std.proofs.Common.{◌≡◌, ◌++◌, IfOk, string_bytes, true, FitsSigned, w64, rules, to_z-of_z, sym, ap, ◌∙◌, subst}
-use Rattle.zone_spans.specs.Entries.{total}
-use Rattle.zone_spans.specs.declared.span.FixedTimespan.{FixedTimespan}
-use Rattle.zone_tail.specs.Tails.{can_be_written}
-use Rattle.zone_tail.specs.Texts.{name_text, offset_text}
-use Rattle.zone_tzif.specs.Tried.{tried_for}
-use Rattle.zone_tzif.proofs.FormLemmas.{other_fails, steady_written, total_of_span-is, yearly_written}
+use Rattle.zone_spans.specs.{Entries.{total}, declared.span.FixedTimespan.{FixedTimespan}}
+use Rattle.zone_tail.specs.{Tails.{can_be_written}, Texts.{name_text, offset_text}}
+use Rattle.zone_tzif.{specs.Tried.{tried_for}, proofs.FormLemmas.{other_fails, steady_written, total_of_span-is, yearly_written}}
 use Rattle.zone_tzif.proofs.tried.tried_text.Goals as goal
 
 pub steady_text-requires : goal.steady_text-requires

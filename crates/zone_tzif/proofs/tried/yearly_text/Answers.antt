@@ -1,9 +1,6 @@
-use Rattle.std.proofs.Common.{◌≡◌, ◌++◌, ◌+ℤ◌, FitsSigned, w64, rules, to_z-of_z, sym, ap, ◌∙◌, subst, true}
-use Rattle.std.proofs.lemmas.Bool.{and_parts}
+use Rattle.std.proofs.{Common.{◌≡◌, ◌++◌, ◌+ℤ◌, FitsSigned, w64, rules, to_z-of_z, sym, ap, ◌∙◌, subst, true}, lemmas.Bool.{and_parts}}
 use Rattle.zone_spans.specs.declared.span.FixedTimespan.{FixedTimespan}
-use Rattle.zone_tail.specs.Shapes.{entry_in}
-use Rattle.zone_tail.specs.Tails.{can_be_written}
-use Rattle.zone_tail.specs.Texts.{name_text, offset_text, saving_text}
+use Rattle.zone_tail.specs.{Shapes.{entry_in}, Tails.{can_be_written}, Texts.{name_text, offset_text, saving_text}}
 use Rattle.zone_tzif.specs.Tried.{changes_by, tried_for}
 use Rattle.zone_tzif.proofs.tried.yearly_text.Goals as goal
 

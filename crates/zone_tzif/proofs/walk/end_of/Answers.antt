@@ -1,7 +1,5 @@
-use Rattle.std.proofs.Common.{◌≡◌, suc, ◌+◌, w64, FitsSigned, rules, ap, ◌∙◌, arith}
-use Rattle.std.proofs.lemmas.Int.{ints}
-use Rattle.zone_tzif.specs.Agreement.{time_of_entry}
-use Rattle.zone_tzif.proofs.StepLemmas.{length-shifts}
+use Rattle.std.proofs.{Common.{◌≡◌, suc, ◌+◌, w64, FitsSigned, rules, ap, ◌∙◌, arith}, lemmas.Int.{ints}}
+use Rattle.zone_tzif.{specs.Agreement.{time_of_entry}, proofs.StepLemmas.{length-shifts}}
 use Rattle.zone_tzif.proofs.walk.end_of.Goals as goal
 
 pub returns-then-entry-entry_count-clause-end : goal.returns-then-entry-entry_count-clause-end

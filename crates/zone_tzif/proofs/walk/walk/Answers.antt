@@ -1,7 +1,6 @@
 use Rattle.std.proofs.Common.{◌≡◌, suc, ◌-◌, subst, arith}
 use Rattle.tz_tzif.specs.FooterShown.{footer_shown}
-use Rattle.zone_tzif.specs.Walked.{AgreesAt}
-use Rattle.zone_tzif.proofs.StepLemmas.{one_more}
+use Rattle.zone_tzif.{specs.Walked.{AgreesAt}, proofs.StepLemmas.{one_more}}
 use Rattle.zone_tzif.proofs.walk.walk.Goals as goal
 
 pub goes_on-requires-clause-later : goal.goes_on-requires-clause-later

@@ -1,6 +1,5 @@
 use Rattle.std.proofs.Common.{◌≤◌, arith}
-use Rattle.zone_tzif_core.specs.Shown.{record_shown}
-use Rattle.zone_tzif_core.proofs.PassLemmas.{kinds_kept, kinds_refused, kinds_end, seen}
+use Rattle.zone_tzif_core.{specs.Shown.{record_shown}, proofs.PassLemmas.{kinds_kept, kinds_refused, kinds_end, seen}}
 use Rattle.zone_tzif_core.proofs.check.are_kinds.Goals as goal
 
 pub returns-then-is_none : goal.returns-then-is_none

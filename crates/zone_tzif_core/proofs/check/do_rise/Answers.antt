@@ -1,5 +1,4 @@
-use Rattle.std.proofs.Common.{◌∙◌, sym, int_lt, rules, FitsSigned, w64}
-use Rattle.std.proofs.lemmas.Int.{to_z-of_z}
+use Rattle.std.proofs.{Common.{◌∙◌, sym, int_lt, rules, FitsSigned, w64}, lemmas.Int.{to_z-of_z}}
 use Rattle.zone_tzif_core.proofs.PassLemmas.{rise_kept, rise_refused, rise_end}
 use Rattle.zone_tzif_core.proofs.check.do_rise.Goals as goal
 

@@ -1,5 +1,4 @@
-use Rattle.zone_tzif_core.specs.Check.{times_in}
-use Rattle.zone_tzif_core.proofs.LoopLemmas.{RiseFrom}
+use Rattle.zone_tzif_core.{specs.Check.{times_in}, proofs.LoopLemmas.{RiseFrom}}
 use Rattle.zone_tzif_core.proofs.check.do_rise.Given as goal
 
 abbrev pub invariant-loop-i : goal.invariant-loop-i

@@ -1,7 +1,5 @@
 use Rattle.std.proofs.Common.{◌∙◌, sym, true, false, Some, None}
-use Rattle.zone_tzif_core.specs.Reading.{parts_shown, said_in}
-use Rattle.zone_tzif_core.proofs.ExactLemmas.{reads_footer, what_is_said}
-use Rattle.zone_tzif_core.proofs.PassLemmas.{said_footer, said_none}
+use Rattle.zone_tzif_core.{specs.Reading.{parts_shown, said_in}, proofs.ExactLemmas.{reads_footer, what_is_said}, proofs.PassLemmas.{said_footer, said_none}}
 use Rattle.zone_tzif_core.proofs.check.said_footer.Goals as goal
 
 pub returns-in_err-parts : goal.returns-in_err-parts

@@ -1,6 +1,5 @@
 use Rattle.std.proofs.Common.{◌∙◌, sym, true, false}
-use Rattle.zone_tzif_core.specs.Reading.{parts_shown}
-use Rattle.zone_tzif_core.proofs.PassLemmas.{wanting}
+use Rattle.zone_tzif_core.{specs.Reading.{parts_shown}, proofs.PassLemmas.{wanting}}
 use Rattle.zone_tzif_core.proofs.check.wanting.Goals as goal
 
 pub returns-then-passes : goal.returns-then-passes

@@ -1,10 +1,5 @@
-use Rattle.std.proofs.Common.{◌∙◌, ◌+◌, ◌<◌, ◌≤◌, ℤ, sym, ap, subst, [], length, get_or}
-use Rattle.std.proofs.lemmas.Simd.{map-map}
-use Rattle.std.proofs.lemmas.Result.{err_from_is_err_and}
-use Rattle.zone_tzif_core.specs.Tzif.{is_same, added, each_once, kinds_of}
-use Rattle.zone_tzif_core.specs.Shown.{kind_shown, kinds_seen, shift_shown, zone_shown}
-use Rattle.zone_tzif_core.specs.Zones.{KindValue}
-use Rattle.zone_tzif_core.specs.declared.values.Kind.{Kind}
+use Rattle.std.proofs.{Common.{◌∙◌, ◌+◌, ◌<◌, ◌≤◌, ℤ, sym, ap, subst, [], length, get_or}, lemmas.Simd.{map-map}, lemmas.Result.{err_from_is_err_and}}
+use Rattle.zone_tzif_core.specs.{Tzif.{is_same, added, each_once, kinds_of}, Shown.{kind_shown, kinds_seen, shift_shown, zone_shown}, Zones.{KindValue}, declared.values.Kind.{Kind}}
 use Rattle.zone_tzif_core.proofs.DistinctLemmas.{once_kept, once_end, no_more, too_many}
 use Rattle.zone_tzif_core.proofs.distinct.distinct_kinds.Goals as goal
 

@@ -1,9 +1,5 @@
-use Rattle.std.proofs.Common.{◌∙◌, sym, ap, [], Bor, bytes_eq, string_bytes}
-use Rattle.std.proofs.lemmas.Simd.{map-map}
-use Rattle.zone_tzif_core.specs.Shown.{names_seen}
-use Rattle.zone_tzif_core.specs.Tzif.{added, each_once, names_of}
-use Rattle.zone_tzif_core.specs.declared.values.Kind.{Kind}
-use Rattle.zone_tzif_core.proofs.DistinctLemmas.{once_kept, once_end}
+use Rattle.std.proofs.{Common.{◌∙◌, sym, ap, [], Bor, bytes_eq, string_bytes}, lemmas.Simd.{map-map}}
+use Rattle.zone_tzif_core.{specs.Shown.{names_seen}, specs.Tzif.{added, each_once, names_of}, specs.declared.values.Kind.{Kind}, proofs.DistinctLemmas.{once_kept, once_end}}
 use Rattle.zone_tzif_core.proofs.distinct.distinct_names.Goals as goal
 
 pub loop-kind-preserved : goal.loop-kind-preserved

@@ -1,13 +1,5 @@
-use Rattle.std.proofs.Common.{◌≡◌, ◌<◌, ◌∙◌, length, map, ap, sym, arith}
-use Rattle.std.proofs.lemmas.Bool.Decides.{nat_tests}
-use Rattle.std.proofs.lemmas.List.{length-map}
-use Rattle.std.proofs.lemmas.Result.{err_from_is_err_and}
-use Rattle.zone_tzif_core.specs.Reading.{parts_shown}
-use Rattle.zone_tzif_core.specs.Stored.{stored_kind}
-use Rattle.zone_tzif_core.specs.Zones.{go_up}
-use Rattle.zone_tzif_core.specs.ZoneFiles.{zone_seen}
-use Rattle.zone_tzif_core.proofs.FileLemmas.{no_zone, no_changes, falling, rising}
-use Rattle.zone_tzif_core.proofs.LoopLemmas.{fault_passes}
+use Rattle.std.proofs.{Common.{◌≡◌, ◌<◌, ◌∙◌, length, map, ap, sym, arith}, lemmas.Bool.Decides.{nat_tests}, lemmas.List.{length-map}, lemmas.Result.{err_from_is_err_and}}
+use Rattle.zone_tzif_core.{specs.Reading.{parts_shown}, specs.Stored.{stored_kind}, specs.Zones.{go_up}, specs.ZoneFiles.{zone_seen}, proofs.FileLemmas.{no_zone, no_changes, falling, rising}, proofs.LoopLemmas.{fault_passes}}
 use Rattle.zone_tzif_core.proofs.file_reader.joined.Goals as goal
 
 pub returns-then-is_empty : goal.returns-then-is_empty

@@ -1,9 +1,5 @@
-use Rattle.std.proofs.Common.{◌<◌, ◌≤◌, ◌∙◌, ◌++◌, ◌∷◌, [], ℤ, ℕ, ap, arith, rules, length, get_or, FitsSigned, w64}
-use Rattle.std.proofs.lemmas.Int.{to_z-of_z}
-use Rattle.std.proofs.lemmas.List.{drop_all}
-use Rattle.zone_tzif_core.proofs.FileLemmas.{none_at, numbered_is}
-use Rattle.zone_tzif_core.proofs.LoopLemmas.{shifts_kept, shifts_refused, shifts_end}
-use Rattle.zone_tzif_core.proofs.NameLemmas.{grown_by}
+use Rattle.std.proofs.{Common.{◌<◌, ◌≤◌, ◌∙◌, ◌++◌, ◌∷◌, [], ℤ, ℕ, ap, arith, rules, length, get_or, FitsSigned, w64}, lemmas.Int.{to_z-of_z}, lemmas.List.{drop_all}}
+use Rattle.zone_tzif_core.proofs.{FileLemmas.{none_at, numbered_is}, LoopLemmas.{shifts_kept, shifts_refused, shifts_end}, NameLemmas.{grown_by}}
 use Rattle.zone_tzif_core.proofs.file_reader.read_changes.Goals as goal
 
 pub returns-then-count-number-clause-told : goal.returns-then-count-number-clause-told

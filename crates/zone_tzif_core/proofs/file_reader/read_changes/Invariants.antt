@@ -1,7 +1,5 @@
 use Rattle.std.proofs.Common.{◌≡◌, List, length}
-use Rattle.zone_tzif_core.specs.Stored.{AreNumbered}
-use Rattle.zone_tzif_core.specs.Zones.{KindValue}
-use Rattle.zone_tzif_core.proofs.LoopLemmas.{ShiftsSoFar}
+use Rattle.zone_tzif_core.{specs.Stored.{AreNumbered}, specs.Zones.{KindValue}, proofs.LoopLemmas.{ShiftsSoFar}}
 use Rattle.zone_tzif_core.proofs.file_reader.read_changes.Given as goal
 
 abbrev pub invariant-loop-i : goal.invariant-loop-i

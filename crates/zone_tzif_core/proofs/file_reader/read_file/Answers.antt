@@ -1,8 +1,5 @@
 use Rattle.std.proofs.Common.{option_and_then, subst}
-use Rattle.zone_tzif_core.specs.Reading.{joined_in, said_in}
-use Rattle.zone_tzif_core.specs.Shown.{TellsExactly}
-use Rattle.zone_tzif_core.specs.ZoneFiles.{zone_seen}
-use Rattle.zone_tzif_core.proofs.ExactLemmas.{reads, what_is_said}
+use Rattle.zone_tzif_core.{specs.Reading.{joined_in, said_in}, specs.Shown.{TellsExactly}, specs.ZoneFiles.{zone_seen}, proofs.ExactLemmas.{reads, what_is_said}}
 use Rattle.zone_tzif_core.proofs.file_reader.read_file.Goals as goal
 
 pub returns : goal.returns

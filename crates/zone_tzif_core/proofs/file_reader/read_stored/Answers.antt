@@ -1,8 +1,5 @@
-use Rattle.std.proofs.Common.{◌≡◌, ◌-◌, arith}
-use Rattle.std.proofs.lemmas.Result.{err_from_is_err_and}
-use Rattle.zone_tzif_core.specs.Stored.{stored_kind, IsStored}
-use Rattle.zone_tzif_core.proofs.LoopLemmas.{kinds_kept, kinds_refused, kinds_end, fault_passes}
-use Rattle.zone_tzif_core.proofs.NameLemmas.{grown_by}
+use Rattle.std.proofs.{Common.{◌≡◌, ◌-◌, arith}, lemmas.Result.{err_from_is_err_and}}
+use Rattle.zone_tzif_core.{specs.Stored.{stored_kind, IsStored}, proofs.LoopLemmas.{kinds_kept, kinds_refused, kinds_end, fault_passes}, proofs.NameLemmas.{grown_by}}
 use Rattle.zone_tzif_core.proofs.file_reader.read_stored.Goals as goal
 
 pub returns-in_err-stored-clause-told : goal.returns-in_err-stored-clause-told

@@ -1,5 +1,4 @@
-use Rattle.zone_tzif_core.specs.Stored.{stored_kind, AreStored}
-use Rattle.zone_tzif_core.proofs.LoopLemmas.{KindsSoFar}
+use Rattle.zone_tzif_core.{specs.Stored.{stored_kind, AreStored}, proofs.LoopLemmas.{KindsSoFar}}
 use Rattle.zone_tzif_core.proofs.file_reader.read_stored.Given as goal
 
 abbrev pub invariant-loop-i : goal.invariant-loop-i

@@ -1,7 +1,5 @@
-use Rattle.std.proofs.Common.{Some, refl, ap, ◌∙◌, rules, FitsSigned, w32}
-use Rattle.std.proofs.lemmas.Int.{to_z-of_z}
-use Rattle.zone_tzif_core.specs.Shown.{record_shown}
-use Rattle.zone_tzif_core.proofs.FileLemmas.{stored_is}
+use Rattle.std.proofs.{Common.{Some, refl, ap, ◌∙◌, rules, FitsSigned, w32}, lemmas.Int.{to_z-of_z}}
+use Rattle.zone_tzif_core.{specs.Shown.{record_shown}, proofs.FileLemmas.{stored_is}}
 use Rattle.zone_tzif_core.proofs.file_reader.stored.Goals as goal
 
 pub returns-clause-told : goal.returns-clause-told

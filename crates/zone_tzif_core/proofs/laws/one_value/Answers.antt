@@ -1,5 +1,4 @@
-use Rattle.zone_tzif_core.proofs.ExactLemmas.{one_reading}
-use Rattle.zone_tzif_core.proofs.WrittenLemmas.{written_denotes}
+use Rattle.zone_tzif_core.proofs.{ExactLemmas.{one_reading}, WrittenLemmas.{written_denotes}}
 use Rattle.zone_tzif_core.proofs.laws.one_value.Goals as goal
 
 pub returns : goal.returns

@@ -1,9 +1,6 @@
 -- What a file says has times that rise and small offsets.
-use Rattle.std.proofs.Common.{◌≡◌, ℕ, zero, suc, Bool, true, ◌&&◌, List, ℤ, Some, refl, slice_get, subst}
-use Rattle.std.specs.Prelude.{IfSome}
-use Rattle.std.specs.List.{list_all}
-use Rattle.zone_tzif_core.specs.Denotes.{AreKinds, AreShifts, Says, no_kind, a_kind, no_shift, a_shift, zone_file, old_file}
-use Rattle.zone_tzif_core.specs.Zones.{KindValue, ZoneValue, is_small, rises}
+use Rattle.std.{proofs.Common.{◌≡◌, ℕ, zero, suc, Bool, true, ◌&&◌, List, ℤ, Some, refl, slice_get, subst}, specs.Prelude.{IfSome}, specs.List.{list_all}}
+use Rattle.zone_tzif_core.specs.{Denotes.{AreKinds, AreShifts, Says, no_kind, a_kind, no_shift, a_shift, zone_file, old_file}, Zones.{KindValue, ZoneValue, is_small, rises}}
 use Rattle.zone_tzif_core.proofs.laws.said_bounds.Goals as goal
 
 -- each kind of a file is small

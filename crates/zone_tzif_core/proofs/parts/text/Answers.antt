@@ -1,9 +1,6 @@
 -- What the check of UTF-8 gives.
-use Rattle.std.proofs.Common.{◌≡◌, ℕ, List, Some, option_map, Result, Ok, Err, Bor, MatchResult, sym, ap, ◌∙◌}
-use Rattle.std.proofs.lemmas.Bool.{cond-false, false_from_ne_true}
-use Rattle.std.proofs.lemmas.Str.{IsUtf8-from_is_utf8, is_utf8-from_IsUtf8}
-use Rattle.std.specs.Result.{result_ok}
-use Rattle.std.specs.Str.{IsUtf8}
+use Rattle.std.proofs.{Common.{◌≡◌, ℕ, List, Some, option_map, Result, Ok, Err, Bor, MatchResult, sym, ap, ◌∙◌}, lemmas.Bool.{cond-false, false_from_ne_true}, lemmas.Str.{IsUtf8-from_is_utf8, is_utf8-from_IsUtf8}}
+use Rattle.std.specs.{Result.{result_ok}, Str.{IsUtf8}}
 use Rattle.zone_tzif_core.specs.Reading.{text_in}
 use Rattle.zone_tzif_core.proofs.parts.text.Goals as goal
 

@@ -1,15 +1,7 @@
 -- The one spelling of a value.
-use Rattle.std.proofs.Common.{ℕ, List, Err, subst, Ok}
-use Rattle.zone_tzif_core.specs.Denotes.{Denotes}
-use Rattle.zone_tzif_core.specs.Profile.{Compares, ReadsWritten}
-use Rattle.zone_tzif_core.specs.Shown.{Reads, zone_shown}
-use Rattle.zone_tzif_core.specs.Tzif.{IsTzif}
-use Rattle.zone_tzif_core.specs.Zones.{ZoneValue}
-use Rattle.zone_tzif_core.specs.declared.values.ReadFault.{ReadFault}
-use Rattle.zone_tzif_core.specs.declared.values.ReadFault.TheVariants.{Refused, NoMemory}
-use Rattle.zone_tzif_core.proofs.ExactLemmas.{one_reading}
-use Rattle.zone_tzif_core.proofs.WrittenLemmas.{written_denotes}
-use Rattle.std.proofs.lemmas.Result.{err_from_is_err_and}
+use Rattle.std.proofs.{Common.{ℕ, List, Err, subst, Ok}, lemmas.Result.{err_from_is_err_and}}
+use Rattle.zone_tzif_core.specs.{Denotes.{Denotes}, Profile.{Compares, ReadsWritten}, Shown.{Reads, zone_shown}, Tzif.{IsTzif}, Zones.{ZoneValue}, declared.values.ReadFault.{ReadFault}, declared.values.ReadFault.TheVariants.{Refused, NoMemory}}
+use Rattle.zone_tzif_core.proofs.{ExactLemmas.{one_reading}, WrittenLemmas.{written_denotes}}
 use Rattle.zone_tzif_core.proofs.profile.read_tzif.Goals as goal
 
 -- where nothing is denoted, nothing is written

@@ -1,7 +1,5 @@
-use Rattle.std.proofs.Common.{◌<◌, ◌≤◌, ◌∙◌, ◌++◌, ◌∷◌, [], pos, ap, sym, arith, length, take}
-use Rattle.std.proofs.lemmas.List.{map-append, map_more, length-map, take_all}
-use Rattle.zone_tzif_core.specs.Shown.{shift_shown, shifts_shown}
-use Rattle.zone_tzif_core.specs.ZoneFiles.{change_with, changes_with, kinds_kept}
+use Rattle.std.proofs.{Common.{◌<◌, ◌≤◌, ◌∙◌, ◌++◌, ◌∷◌, [], pos, ap, sym, arith, length, take}, lemmas.List.{map-append, map_more, length-map, take_all}}
+use Rattle.zone_tzif_core.specs.{Shown.{shift_shown, shifts_shown}, ZoneFiles.{change_with, changes_with, kinds_kept}}
 use Rattle.zone_tzif_core.proofs.reader.owned_changes.Goals as goal
 
 pub owned_change-requires : goal.owned_change-requires

@@ -1,6 +1,5 @@
 use Rattle.std.proofs.Common.{◌≡◌, take}
-use Rattle.zone_tzif_core.specs.Shown.{shifts_shown}
-use Rattle.zone_tzif_core.specs.ZoneFiles.{changes_with, kinds_kept}
+use Rattle.zone_tzif_core.specs.{Shown.{shifts_shown}, ZoneFiles.{changes_with, kinds_kept}}
 use Rattle.zone_tzif_core.proofs.reader.owned_changes.Given as goal
 
 abbrev pub invariant-loop-place : goal.invariant-loop-place

@@ -1,10 +1,5 @@
-use Rattle.std.proofs.Common.{◌∙◌, ap, option_and_then, subst, sym, Ok, Err}
-use Rattle.std.proofs.lemmas.Result.{err_from_is_err_and}
-use Rattle.zone_tzif_core.specs.Denotes.{Denotes}
-use Rattle.zone_tzif_core.specs.Reading.{joined_in, zone_in}
-use Rattle.zone_tzif_core.specs.Shown.{zone_shown, FaultsExactly}
-use Rattle.zone_tzif_core.specs.ZoneFiles.{zone_seen}
-use Rattle.zone_tzif_core.proofs.ExactLemmas.{reads, denoted}
+use Rattle.std.proofs.{Common.{◌∙◌, ap, option_and_then, subst, sym, Ok, Err}, lemmas.Result.{err_from_is_err_and}}
+use Rattle.zone_tzif_core.{specs.Denotes.{Denotes}, specs.Reading.{joined_in, zone_in}, specs.Shown.{zone_shown, FaultsExactly}, specs.ZoneFiles.{zone_seen}, proofs.ExactLemmas.{reads, denoted}}
 use Rattle.zone_tzif_core.proofs.reader.read_any.Goals as goal
 
 pub returns-in_err-owned_zone-in-Ok : goal.returns-in_err-owned_zone-in-Ok

@@ -1,8 +1,5 @@
 use Rattle.std.proofs.Common.{Bor}
-use Rattle.zone_tzif_core.specs.Shown.{kind_shown}
-use Rattle.zone_tzif_core.specs.Tzif.{is_same, kind_number}
-use Rattle.zone_tzif_core.specs.declared.values.Kind.{Kind}
-use Rattle.zone_tzif_core.proofs.PutLemmas.{number_found, number_not_found}
+use Rattle.zone_tzif_core.{specs.Shown.{kind_shown}, specs.Tzif.{is_same, kind_number}, specs.declared.values.Kind.{Kind}, proofs.PutLemmas.{number_found, number_not_found}}
 use Rattle.zone_tzif_core.proofs.write.kind_number.Goals as goal
 
 pub returns-in-Some : goal.returns-in-Some

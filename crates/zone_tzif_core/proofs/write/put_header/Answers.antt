@@ -1,7 +1,5 @@
-use Rattle.std.proofs.Common.{◌≡◌, ◌++◌, refl, append_assoc, replicate}
-use Rattle.std.proofs.lemmas.Result.{on_ok_weaker}
-use Rattle.zone_tzif_core.specs.Numbers.{count_bytes}
-use Rattle.zone_tzif_core.specs.Tzif.{header_bytes}
+use Rattle.std.proofs.{Common.{◌≡◌, ◌++◌, refl, append_assoc, replicate}, lemmas.Result.{on_ok_weaker}}
+use Rattle.zone_tzif_core.specs.{Numbers.{count_bytes}, Tzif.{header_bytes}}
 use Rattle.zone_tzif_core.proofs.write.put_header.Goals as goal
 
 -- what is reserved, and three counts of zero

@@ -1,6 +1,5 @@
 use Rattle.std.proofs.Common.{Bor, List, ℕ, ◌++◌, ◌∷◌, []}
-use Rattle.zone_tzif_core.specs.Tzif.{name_bytes}
-use Rattle.zone_tzif_core.proofs.PutLemmas.{put_kept_at, put_end}
+use Rattle.zone_tzif_core.{specs.Tzif.{name_bytes}, proofs.PutLemmas.{put_kept_at, put_end}}
 use Rattle.zone_tzif_core.proofs.write.put_names.Goals as goal
 
 pub loop-name-preserved : goal.loop-name-preserved

@@ -1,9 +1,5 @@
-use Rattle.std.proofs.Common.{◌≡◌, ◌∙◌, ◌++◌, ◌∷◌, [], ap, subst, true, ℤ}
-use Rattle.std.specs.List.{list_any}
-use Rattle.zone_tzif_core.specs.Shown.{shift_shown, kinds_seen}
-use Rattle.zone_tzif_core.specs.Tzif.{is_same, kind_number}
-use Rattle.zone_tzif_core.specs.Zones.{KindValue}
-use Rattle.zone_tzif_core.proofs.PutLemmas.{put_kept, put_end, seen_at, seen_long}
+use Rattle.std.{proofs.Common.{◌≡◌, ◌∙◌, ◌++◌, ◌∷◌, [], ap, subst, true, ℤ}, specs.List.{list_any}}
+use Rattle.zone_tzif_core.{specs.Shown.{shift_shown, kinds_seen}, specs.Tzif.{is_same, kind_number}, specs.Zones.{KindValue}, proofs.PutLemmas.{put_kept, put_end, seen_at, seen_long}}
 use Rattle.zone_tzif_core.proofs.write.put_numbers.Goals as goal
 
 pub kind_number-requires-clause-among : goal.kind_number-requires-clause-among

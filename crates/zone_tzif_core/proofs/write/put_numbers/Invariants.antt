@@ -1,7 +1,5 @@
 use Rattle.std.proofs.Common.{◌∷◌, []}
-use Rattle.zone_tzif_core.specs.Shown.{shift_shown, kinds_seen}
-use Rattle.zone_tzif_core.specs.Tzif.{kind_number}
-use Rattle.zone_tzif_core.proofs.PutLemmas.{PutSoFar}
+use Rattle.zone_tzif_core.{specs.Shown.{shift_shown, kinds_seen}, specs.Tzif.{kind_number}, proofs.PutLemmas.{PutSoFar}}
 use Rattle.zone_tzif_core.proofs.write.put_numbers.Given as goal
 
 abbrev pub invariant-loop-shift : goal.invariant-loop-shift

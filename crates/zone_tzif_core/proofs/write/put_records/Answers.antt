@@ -1,9 +1,5 @@
 use Rattle.std.proofs.Common.{◌<◌, subst, Bor}
-use Rattle.zone_tzif_core.specs.Shown.{kind_shown, names_seen}
-use Rattle.zone_tzif_core.specs.Tzif.{name_place, record_bytes}
-use Rattle.zone_tzif_core.specs.Zones.{KindValue}
-use Rattle.zone_tzif_core.specs.declared.values.Kind.{Kind}
-use Rattle.zone_tzif_core.proofs.PutLemmas.{put_kept, put_end, seen_at, seen_long}
+use Rattle.zone_tzif_core.{specs.Shown.{kind_shown, names_seen}, specs.Tzif.{name_place, record_bytes}, specs.Zones.{KindValue}, specs.declared.values.Kind.{Kind}, proofs.PutLemmas.{put_kept, put_end, seen_at, seen_long}}
 use Rattle.zone_tzif_core.proofs.write.put_records.Goals as goal
 
 pub put_record-requires-clause-named : goal.put_record-requires-clause-named

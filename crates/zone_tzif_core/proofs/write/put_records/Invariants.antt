@@ -1,8 +1,5 @@
 use Rattle.std.proofs.Common.{Bor}
-use Rattle.zone_tzif_core.specs.Shown.{kind_shown, names_seen}
-use Rattle.zone_tzif_core.specs.Tzif.{record_bytes}
-use Rattle.zone_tzif_core.specs.declared.values.Kind.{Kind}
-use Rattle.zone_tzif_core.proofs.PutLemmas.{PutSoFar}
+use Rattle.zone_tzif_core.{specs.Shown.{kind_shown, names_seen}, specs.Tzif.{record_bytes}, specs.declared.values.Kind.{Kind}, proofs.PutLemmas.{PutSoFar}}
 use Rattle.zone_tzif_core.proofs.write.put_records.Given as goal
 
 abbrev pub invariant-loop-kind : goal.invariant-loop-kind

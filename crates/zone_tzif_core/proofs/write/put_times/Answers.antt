@@ -1,11 +1,5 @@
-use Rattle.std.proofs.Common.{◌≡◌, ℤ, arith, length, FitsSigned, ◌++◌, ◌∙◌, ap, subst, sym}
-use Rattle.std.proofs.lemmas.Int.{to_z-of_z}
-use Rattle.std.proofs.lemmas.List.{length-map}
-use Rattle.std.specs.Int.{w64}
-use Rattle.zone_tzif_core.specs.Numbers.{eight_bytes}
-use Rattle.zone_tzif_core.specs.Shown.{shift_shown, shifts_shown}
-use Rattle.zone_tzif_core.specs.Zones.{KindValue}
-use Rattle.zone_tzif_core.proofs.PutLemmas.{put_kept, put_end, each_kept}
+use Rattle.std.{proofs.Common.{◌≡◌, ℤ, arith, length, FitsSigned, ◌++◌, ◌∙◌, ap, subst, sym}, proofs.lemmas.Int.{to_z-of_z}, proofs.lemmas.List.{length-map}, specs.Int.{w64}}
+use Rattle.zone_tzif_core.{specs.Numbers.{eight_bytes}, specs.Shown.{shift_shown, shifts_shown}, specs.Zones.{KindValue}, proofs.PutLemmas.{put_kept, put_end, each_kept}}
 use Rattle.zone_tzif_core.proofs.write.put_times.Goals as goal
 
 pub loop-shift-preserved : goal.loop-shift-preserved

@@ -1,9 +1,5 @@
-use Rattle.std.proofs.Common.{ℕ, ℤ, ◌<◌, FitsSigned, slice_index_or}
-use Rattle.std.specs.Int.{w64}
-use Rattle.zone_tzif_core.specs.Numbers.{eight_bytes}
-use Rattle.zone_tzif_core.specs.Shown.{shift_shown, shifts_shown}
-use Rattle.zone_tzif_core.specs.Zones.{KindValue}
-use Rattle.zone_tzif_core.proofs.PutLemmas.{PutSoFar}
+use Rattle.std.{proofs.Common.{ℕ, ℤ, ◌<◌, FitsSigned, slice_index_or}, specs.Int.{w64}}
+use Rattle.zone_tzif_core.{specs.Numbers.{eight_bytes}, specs.Shown.{shift_shown, shifts_shown}, specs.Zones.{KindValue}, proofs.PutLemmas.{PutSoFar}}
 use Rattle.zone_tzif_core.proofs.write.put_times.Given as goal
 
 abbrev pub invariant-loop-shift : goal.invariant-loop-shift

@@ -1,9 +1,5 @@
-use Rattle.std.proofs.Common.{◌≡◌, ◌∙◌, ◌&&◌, ap, sym, nat_le, length, ℤ}
-use Rattle.std.proofs.lemmas.Simd.{map-map}
-use Rattle.std.proofs.lemmas.List.{length-map}
-use Rattle.zone_tzif_core.specs.Shown.{shift_shown, shifts_shown}
-use Rattle.zone_tzif_core.specs.Tzif.{are_times}
-use Rattle.zone_tzif_core.specs.Zones.{KindValue, go_up, rises}
+use Rattle.std.proofs.{Common.{◌≡◌, ◌∙◌, ◌&&◌, ap, sym, nat_le, length, ℤ}, lemmas.Simd.{map-map}, lemmas.List.{length-map}}
+use Rattle.zone_tzif_core.specs.{Shown.{shift_shown, shifts_shown}, Tzif.{are_times}, Zones.{KindValue, go_up, rises}}
 use Rattle.zone_tzif_core.proofs.writer.are_times.Goals as goal
 
 pub returns : goal.returns

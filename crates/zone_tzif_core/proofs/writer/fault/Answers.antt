@@ -1,7 +1,5 @@
 use Rattle.std.proofs.Common.{◌∙◌, ap, sym}
-use Rattle.zone_tzif_core.specs.Format.{is_one_line}
-use Rattle.zone_tzif_core.specs.Tzif.{name_bytes}
-use Rattle.zone_tzif_core.proofs.CheckLemmas.{fault_is}
+use Rattle.zone_tzif_core.{specs.Format.{is_one_line}, specs.Tzif.{name_bytes}, proofs.CheckLemmas.{fault_is}}
 use Rattle.zone_tzif_core.proofs.writer.fault.Goals as goal
 
 pub are_names-named-requires : goal.are_names-named-requires

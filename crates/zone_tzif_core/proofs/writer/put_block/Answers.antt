@@ -1,7 +1,5 @@
 use Rattle.std.proofs.Common.{ap, subst}
-use Rattle.zone_tzif_core.specs.Shown.{kinds_seen, names_seen, shifts_shown, zone_shown}
-use Rattle.zone_tzif_core.specs.Tzif.{name_bytes, TimesFit}
-use Rattle.zone_tzif_core.proofs.CheckLemmas.{few_kinds, few_chars, all_among, all_placed, block_put}
+use Rattle.zone_tzif_core.{specs.Shown.{kinds_seen, names_seen, shifts_shown, zone_shown}, specs.Tzif.{name_bytes, TimesFit}, proofs.CheckLemmas.{few_kinds, few_chars, all_among, all_placed, block_put}}
 use Rattle.zone_tzif_core.proofs.writer.put_block.Goals as goal
 
 pub put_numbers-requires-clause-few : goal.put_numbers-requires-clause-few

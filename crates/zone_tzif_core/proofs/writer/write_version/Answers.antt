@@ -1,15 +1,8 @@
 -- The code's own values.
-use Rattle.std.proofs.Common.{◌≡◌, ℕ, ◌<◌, ℤ, pos, List, length, get_or, Result, Ok, Err, OnOk, IfOk, sym, subst, arith, ◌∙◌, ap}
-use Rattle.std.proofs.lemmas.List.{get_or-map, length-map}
-use Rattle.std.proofs.lemmas.Str.{IsUtf8-string_bytes}
+use Rattle.std.proofs.{Common.{◌≡◌, ℕ, ◌<◌, ℤ, pos, List, length, get_or, Result, Ok, Err, OnOk, IfOk, sym, subst, arith, ◌∙◌, ap}, lemmas.List.{get_or-map, length-map}, lemmas.Str.{IsUtf8-string_bytes}, lemmas.Result.{err_from_is_err_and}}
 use Rattle.std.specs.Str.{IsUtf8}
-use Rattle.zone_tzif_core.specs.Shown.{shift_shown, shifts_shown, zone_shown}
-use Rattle.zone_tzif_core.specs.Tzif.{IsValue, IsTzifBy, TimesFit, WritesBy, are_times}
-use Rattle.zone_tzif_core.specs.Zones.{KindValue}
-use Rattle.zone_tzif_core.specs.declared.values.TzifZone.{TzifZone}
-use Rattle.zone_tzif_core.specs.declared.values.Version.{Version}
+use Rattle.zone_tzif_core.specs.{Shown.{shift_shown, shifts_shown, zone_shown}, Tzif.{IsValue, IsTzifBy, TimesFit, WritesBy, are_times}, Zones.{KindValue}, declared.values.TzifZone.{TzifZone}, declared.values.Version.{Version}}
 use Rattle.zone_tzif_core.specs.declared.values.WriteFault.{WriteFault}
-use Rattle.std.proofs.lemmas.Result.{err_from_is_err_and}
 use Rattle.zone_tzif_core.proofs.CheckLemmas.{times_refuse, kinds_refuse}
 use Rattle.zone_tzif_core.proofs.writer.write_version.Goals as goal
 

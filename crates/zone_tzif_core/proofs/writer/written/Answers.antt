@@ -1,6 +1,5 @@
 use Rattle.std.proofs.Common.{arith}
-use Rattle.zone_tzif_core.specs.Shown.{zone_shown}
-use Rattle.zone_tzif_core.proofs.CheckLemmas.{few_times, few_kinds, few_chars}
+use Rattle.zone_tzif_core.{specs.Shown.{zone_shown}, proofs.CheckLemmas.{few_times, few_kinds, few_chars}}
 use Rattle.zone_tzif_core.proofs.writer.written.Goals as goal
 
 pub overflow_cast-times : goal.overflow_cast-times

@@ -1,6 +1,4 @@
-use Rattle.std.proofs.Common.{◌≡◌, ◌+◌, ◌-◌, take, drop, sym, subst, arith}
-use Rattle.std.proofs.lemmas.Str.{IsUtf8-from_is_utf8}
-use Rattle.std.specs.Str.{IsUtf8}
+use Rattle.std.{proofs.Common.{◌≡◌, ◌+◌, ◌-◌, take, drop, sym, subst, arith}, proofs.lemmas.Str.{IsUtf8-from_is_utf8}, specs.Str.{IsUtf8}}
 use Rattle.zone_tzif_core.specs.Stored.{stored_name}
 use Rattle.zone_tzif_core.proofs.zone_file.named.Goals as goal
 

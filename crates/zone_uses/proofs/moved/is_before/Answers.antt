@@ -1,8 +1,5 @@
 use Rattle.std.proofs.Common.{ap, ◌∙◌, int_lt, pos, ◌+ℤ◌, ◌*ℤ◌}
-use Rattle.civil_base.specs.DateTimes.{local_of, instant-at_offset, instant}
-use Rattle.civil_base.specs.Instants.{instant_at}
-use Rattle.civil_base.specs.Layout.{day_part}
-use Rattle.civil_base.specs.PartLaws.{parts-joined}
+use Rattle.civil_base.specs.{DateTimes.{local_of, instant-at_offset, instant}, Instants.{instant_at}, Layout.{day_part}, PartLaws.{parts-joined}}
 use Rattle.zone_uses.proofs.moved.is_before.Goals as goal
 
 pub returns : goal.returns

@@ -1,8 +1,6 @@
-use Rattle.std.proofs.Common.{◌≡◌, ◌<◌, arith, w32}
-use Rattle.std.proofs.lemmas.Int.{ints}
+use Rattle.std.proofs.{Common.{◌≡◌, ◌<◌, arith, w32}, lemmas.Int.{ints}}
 use Rattle.basics.specs.Weekdays.{weekday_of}
-use Rattle.zone_values.specs.Weekdays.{weekday_number}
-use Rattle.zone_values.specs.WeekdayLaws.{first_from-is}
+use Rattle.zone_values.specs.{Weekdays.{weekday_number}, WeekdayLaws.{first_from-is}}
 use mir.Val.{of_z, to_z}
 use Rattle.zone_values.proofs.day.first_from.Goals as goal
 

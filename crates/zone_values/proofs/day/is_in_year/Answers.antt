@@ -1,5 +1,4 @@
-use Rattle.std.proofs.Common.{◌≡◌, pos, ◌+ℤ◌, arith, w32}
-use Rattle.std.proofs.lemmas.Int.{ints}
+use Rattle.std.proofs.{Common.{◌≡◌, pos, ◌+ℤ◌, arith, w32}, lemmas.Int.{ints}}
 use Rattle.basics.specs.Days.{day}
 use Rattle.zone_values.specs.Days.{is_in_year}
 use mir.Val.{of_z, to_z}

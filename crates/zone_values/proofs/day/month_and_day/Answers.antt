@@ -1,5 +1,4 @@
-use Rattle.std.proofs.Common.{◌≡◌, pos, arith, w8, w32}
-use Rattle.std.proofs.lemmas.Int.{ints}
+use Rattle.std.proofs.{Common.{◌≡◌, pos, arith, w8, w32}, lemmas.Int.{ints}}
 use Rattle.basics.specs.MonthLaws.{days_in_month-bounds}
 use mir.Val.{of_z, to_z}
 use Rattle.zone_values.proofs.day.month_and_day.Goals as goal

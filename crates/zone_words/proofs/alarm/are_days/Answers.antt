@@ -1,6 +1,4 @@
-use Rattle.std.proofs.Common.{rules, tests}
-use Rattle.std.proofs.lemmas.Iterator.Search.{all_from_yields_List}
-use Rattle.std.proofs.lemmas.Iterator.Splits.{YieldsList-from_slice_split}
+use Rattle.std.proofs.{Common.{rules, tests}, lemmas.Iterator.Search.{all_from_yields_List}, lemmas.Iterator.Splits.{YieldsList-from_slice_split}}
 use Rattle.zone_words.specs.Alarms.{is_comma, is_day}
 use Rattle.zone_words.proofs.alarm.are_days.Goals as goal
 

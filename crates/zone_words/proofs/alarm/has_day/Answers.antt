@@ -1,6 +1,4 @@
-use Rattle.std.proofs.Common.{rules, tests, bytes_eq}
-use Rattle.std.proofs.lemmas.Iterator.Search.{any_from_yields_List}
-use Rattle.std.proofs.lemmas.Iterator.Splits.{YieldsList-from_slice_split}
+use Rattle.std.proofs.{Common.{rules, tests, bytes_eq}, lemmas.Iterator.Search.{any_from_yields_List}, lemmas.Iterator.Splits.{YieldsList-from_slice_split}}
 use Rattle.zone_words.specs.Alarms.{is_comma}
 use Rattle.zone_words.proofs.alarm.has_day.Goals as goal
 

@@ -1,6 +1,5 @@
 use Rattle.std.proofs.Common.{◌≡◌, drop, map}
-use Rattle.zone_words.specs.Options.{is_among}
-use Rattle.zone_words.specs.Shown.{given_shown}
+use Rattle.zone_words.specs.{Options.{is_among}, Shown.{given_shown}}
 use Rattle.zone_words.proofs.given.is_among.Given as goal
 
 abbrev pub invariant-loop-other : goal.invariant-loop-other

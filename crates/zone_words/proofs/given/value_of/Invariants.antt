@@ -1,6 +1,5 @@
 use Rattle.std.proofs.Common.{◌≡◌, drop, map}
-use Rattle.zone_words.specs.Options.{value_of}
-use Rattle.zone_words.specs.Shown.{given_shown}
+use Rattle.zone_words.specs.{Options.{value_of}, Shown.{given_shown}}
 use Rattle.zone_words.proofs.given.value_of.Given as goal
 
 abbrev pub invariant-loop-option : goal.invariant-loop-option

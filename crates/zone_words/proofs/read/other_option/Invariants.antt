@@ -1,6 +1,5 @@
 use Rattle.std.proofs.Common.{◌≡◌, drop, map}
-use Rattle.zone_words.specs.Shown.{given_shown}
-use Rattle.zone_words.specs.Words.{other_option}
+use Rattle.zone_words.specs.{Shown.{given_shown}, Words.{other_option}}
 use Rattle.zone_words.proofs.read.other_option.Given as goal
 
 abbrev pub invariant-loop-option : goal.invariant-loop-option

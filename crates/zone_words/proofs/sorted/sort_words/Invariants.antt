@@ -1,6 +1,5 @@
 use Rattle.std.proofs.Common.{◌≡◌, drop, map, string_bytes}
-use Rattle.zone_words.specs.Shown.{sorted_shown}
-use Rattle.zone_words.specs.Sorted.{sorted, sorted_from}
+use Rattle.zone_words.specs.{Shown.{sorted_shown}, Sorted.{sorted, sorted_from}}
 use Rattle.zone_words.proofs.sorted.sort_words.Given as goal
 
 -- what is left, behind what was sorted, is what all words are sorted to

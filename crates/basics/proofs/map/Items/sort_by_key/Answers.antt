@@ -1,7 +1,5 @@
-use Rattle.std.proofs.Common.{◌≡◌, ◌∙◌, ap}
-use Rattle.std.proofs.lemmas.List.Sorted.{ranks_by}
-use Rattle.basics.specs.Sorted.{stable_sort, by_key}
-use Rattle.basics.proofs.StableSorts.{the_stable_sort}
+use Rattle.std.proofs.{Common.{◌≡◌, ◌∙◌, ap}, lemmas.List.Sorted.{ranks_by}}
+use Rattle.basics.{specs.Sorted.{stable_sort, by_key}, proofs.StableSorts.{the_stable_sort}}
 use Rattle.basics.proofs.map.Items.sort_by_key.Goals as goal
 
 -- std's sort rises and keeps ties, so its list is the one that the definition gives

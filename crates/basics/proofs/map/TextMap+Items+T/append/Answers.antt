@@ -1,10 +1,6 @@
-use Rattle.std.proofs.Common.{◌≡◌, ◌++◌, ◌∷◌, [], Some, unwrap_or, sym, ap, ◌∙◌, string_bytes, subst, IsSome, refl}
-use Rattle.std.proofs.lemmas.Result.{on_ok_weaker, on_err_weaker}
-use Rattle.std.proofs.lemmas.Map.Steps.{set_value_same}
-use Rattle.std.specs.Str.{bytes_eq}
+use Rattle.std.{proofs.Common.{◌≡◌, ◌++◌, ◌∷◌, [], Some, unwrap_or, sym, ap, ◌∙◌, string_bytes, subst, IsSome, refl}, proofs.lemmas.Result.{on_ok_weaker, on_err_weaker}, proofs.lemmas.Map.Steps.{set_value_same}, specs.Str.{bytes_eq}}
 use Rattle.std.specs.FinMap as map
-use Rattle.basics.specs.Keyed.{keyed}
-use Rattle.basics.proofs.KeyedMaps.{keyed_updates, get-keyed}
+use Rattle.basics.{specs.Keyed.{keyed}, proofs.KeyedMaps.{keyed_updates, get-keyed}}
 use Rattle.basics.proofs.map.TextMap+Items+T.append.Goals as goal
 
 -- the list at the name is what the map has there

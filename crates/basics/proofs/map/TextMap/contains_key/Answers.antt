@@ -1,5 +1,4 @@
-use Rattle.std.proofs.Common.{sym, ap, ◌∙◌}
-use Rattle.std.specs.Option.{is_some}
+use Rattle.std.{proofs.Common.{sym, ap, ◌∙◌}, specs.Option.{is_some}}
 use Rattle.std.specs.FinMap as map
 use Rattle.basics.proofs.KeyedMaps.{get-keyed}
 use Rattle.basics.proofs.map.TextMap.contains_key.Goals as goal

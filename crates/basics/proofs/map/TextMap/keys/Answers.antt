@@ -1,17 +1,7 @@
-use Rattle.std.proofs.Common.{refl, sym, map as each}
-use Rattle.std.specs.Cmp.{eq_by_cmp_equiv}
-use Rattle.std.specs.Cmp.Lexicographic.{nat_list_cmp_total, on_texts}
-use Rattle.std.specs.List.{IsDistinct}
-use Rattle.std.specs.List.Sorted.{IsPermutation}
-use Rattle.std.specs.Map.Iter.{deref}
-use Rattle.std.specs.Ordering.{eq_by_cmp}
+use Rattle.std.proofs.{Common.{refl, sym, map as each}, lemmas.List.Sorted.{IsPermutation-map, IsPermutation-trans, list_any-IsPermutation}, lemmas.Map.Keys.{IsDistinct-IsPermutation, IsDistinct-from_sorted}}
+use Rattle.std.specs.{Cmp.{eq_by_cmp_equiv}, Cmp.Lexicographic.{nat_list_cmp_total, on_texts}, List.{IsDistinct}, List.Sorted.{IsPermutation}, Map.Iter.{deref}, Ordering.{eq_by_cmp}, FinMap.{slice_cmp-IsAntisymmetric, nat_cmp-IsAntisymmetric}}
 use Rattle.std.specs.FinMap as map
-use Rattle.std.specs.FinMap.{slice_cmp-IsAntisymmetric, nat_cmp-IsAntisymmetric}
-use Rattle.std.proofs.lemmas.List.Sorted.{IsPermutation-map, IsPermutation-trans, list_any-IsPermutation}
-use Rattle.std.proofs.lemmas.Map.Keys.{IsDistinct-IsPermutation, IsDistinct-from_sorted}
-use Rattle.basics.specs.Keyed.{text_cmp}
-use Rattle.basics.specs.InOrderLaws.{rises-keys, same_rising, sorted_from_rises, rises-viewed}
-use Rattle.basics.proofs.DistinctKeys.{sorted_from_distinct, IsDistinct-unviewed}
+use Rattle.basics.{specs.Keyed.{text_cmp}, specs.InOrderLaws.{rises-keys, same_rising, sorted_from_rises, rises-viewed}, proofs.DistinctKeys.{sorted_from_distinct, IsDistinct-unviewed}}
 use Rattle.basics.proofs.map.TextMap.keys.Goals as goal
 
 -- the same keys on both sides, and both sides strictly rise

@@ -1,13 +1,7 @@
-use Rattle.std.proofs.Common.{rules, ◌≡◌, Ok, sym, ◌∙◌, subst, string_bytes, map as each}
-use Rattle.std.specs.HashMap.{keys}
-use Rattle.std.specs.List.Sorted.{IsPermutation}
-use Rattle.std.specs.Map.Iter.{deref}
+use Rattle.std.proofs.{Common.{rules, ◌≡◌, Ok, sym, ◌∙◌, subst, string_bytes, map as each}, lemmas.Iterator.{YieldsList-from_map_by}, lemmas.Iterator.Consumers.{map_from_collect, YieldsList-at, YieldsList-from_rest}, lemmas.List.Sorted.{IsPermutation-map}}
+use Rattle.std.specs.{HashMap.{keys}, List.Sorted.{IsPermutation}, Map.Iter.{deref}}
 use Rattle.std.specs.FinMap as map
-use Rattle.std.proofs.lemmas.Iterator.{YieldsList-from_map_by}
-use Rattle.std.proofs.lemmas.Iterator.Consumers.{map_from_collect, YieldsList-at, YieldsList-from_rest}
-use Rattle.std.proofs.lemmas.List.Sorted.{IsPermutation-map}
-use Rattle.basics.specs.Keyed.{by_bytes}
-use Rattle.basics.proofs.Permuted.{entries-keyed, keys-by_bytes}
+use Rattle.basics.{specs.Keyed.{by_bytes}, proofs.Permuted.{entries-keyed, keys-by_bytes}}
 use Rattle.basics.proofs.map.TextMap.keys_in_any_order.Goals as goal
 
 pub returns : goal.returns

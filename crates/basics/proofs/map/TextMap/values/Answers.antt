@@ -1,11 +1,6 @@
-use Rattle.std.proofs.Common.{◌≡◌, true, sym, ◌∙◌, subst, map as each}
-use Rattle.std.specs.List.{list_all}
-use Rattle.std.specs.List.Sorted.{IsPermutation}
+use Rattle.std.{proofs.Common.{◌≡◌, true, sym, ◌∙◌, subst, map as each}, specs.List.{list_all}, specs.List.Sorted.{IsPermutation}, proofs.lemmas.List.Sorted.{IsPermutation-map}}
 use Rattle.std.specs.FinMap as map
-use Rattle.std.proofs.lemmas.List.Sorted.{IsPermutation-map}
-use Rattle.basics.specs.Keyed.{by_bytes, EachPasses}
-use Rattle.basics.proofs.KeyedMaps.{each_passes, all_pass}
-use Rattle.basics.proofs.Permuted.{entries-keyed, values-by_bytes, list_all-permuted}
+use Rattle.basics.{specs.Keyed.{by_bytes, EachPasses}, proofs.KeyedMaps.{each_passes, all_pass}, proofs.Permuted.{entries-keyed, values-by_bytes, list_all-permuted}}
 use Rattle.basics.proofs.map.TextMap.values.Goals as goal
 
 pub returns : goal.returns

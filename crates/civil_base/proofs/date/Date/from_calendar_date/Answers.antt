@@ -1,7 +1,6 @@
 use Rattle.std.proofs.Common.{arith, pos, neg_ℤ, to_z, of_z, to_z-of_z, w32, ap}
-use Rattle.basics.specs.SignedLaws.{signed_casts}
+use Rattle.basics.specs.{SignedLaws.{signed_casts}, Days.{IsDate, days_in_month}}
 use Rattle.civil_base.specs.DayRangeLaws.{counted-first, counted-last, day-first, day-last}
-use Rattle.basics.specs.Days.{IsDate, days_in_month}
 use Rattle.civil_base.proofs.date.Date.from_calendar_date.Goals as goal
 
 pub invariant_of-result : goal.invariant_of-result

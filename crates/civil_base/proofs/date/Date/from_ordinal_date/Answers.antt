@@ -1,10 +1,6 @@
 use Rattle.std.proofs.Common.{arith, ◌≡◌, ℕ, ◌-◌, ℤ, pos, ◌+ℤ◌, to_z, of_z, w32, to_z-of_z, ap, ◌∙◌}
-use Rattle.basics.specs.SignedLaws.{signed_casts}
-use Rattle.basics.specs.Days.{day, days_in_year}
-use Rattle.civil_base.specs.Ordinals.{IsOrdinal, ordinal_day}
-use Rattle.civil_base.specs.Ranges.{IsYear}
-use Rattle.civil_base.proofs.OrdinalLemmas.{ordinal_day-inside, new_year-inside}
-use Rattle.basics.specs.MonthLaws.{days_in_year-bounds}
+use Rattle.basics.specs.{SignedLaws.{signed_casts}, Days.{day, days_in_year}, MonthLaws.{days_in_year-bounds}}
+use Rattle.civil_base.{specs.Ordinals.{IsOrdinal, ordinal_day}, specs.Ranges.{IsYear}, proofs.OrdinalLemmas.{ordinal_day-inside, new_year-inside}}
 use Rattle.civil_base.proofs.date.Date.from_ordinal_date.Goals as goal
 
 -- the day number as the code computes it

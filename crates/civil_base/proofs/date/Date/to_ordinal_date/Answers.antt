@@ -1,11 +1,6 @@
 use Rattle.std.proofs.Common.{rules, arith, ◌≡◌, pos, to_z, of_z, to_z-of_z, FitsSigned, w32, ap, ◌∙◌, unsigned_abs}
-use Rattle.basics.specs.Dates.{year_of}
-use Rattle.basics.specs.MonthLaws.{days_in_year-bounds}
-use Rattle.basics.specs.SignedLaws.{signed_casts}
-use Rattle.civil_base.specs.Ordinals.{ordinal_of}
-use Rattle.civil_base.specs.Ranges.{IsDay}
-use Rattle.civil_base.specs.DayLaws.{date_of-day}
-use Rattle.civil_base.proofs.OrdinalLemmas.{place, place_is, ordinal_day-of, ordinal_of-inside}
+use Rattle.basics.specs.{Dates.{year_of}, MonthLaws.{days_in_year-bounds}, SignedLaws.{signed_casts}}
+use Rattle.civil_base.{specs.Ordinals.{ordinal_of}, specs.Ranges.{IsDay}, specs.DayLaws.{date_of-day}, proofs.OrdinalLemmas.{place, place_is, ordinal_day-of, ordinal_of-inside}}
 use Rattle.civil_base.proofs.date.Date.to_ordinal_date.Goals as goal
 
 year_is : (c : goal.After-day_number-first) → to_z w32 (of_z w32 c.year-year.result) ≡ year_of c.args.self

@@ -1,8 +1,6 @@
 use Rattle.std.proofs.Common.{arith, ◌≡◌, ℤ, ap, ◌∙◌, to_z-of_z}
 use Rattle.basics.specs.SignedLaws.{signed}
-use Rattle.civil_base.specs.Instants.{local_at, instant_at}
-use Rattle.civil_base.specs.DateTimes.{instant}
-use Rattle.civil_base.proofs.DateTimeLemmas.{instant-parts}
+use Rattle.civil_base.{specs.Instants.{local_at, instant_at}, specs.DateTimes.{instant}, proofs.DateTimeLemmas.{instant-parts}}
 use Rattle.civil_base.proofs.offset_date_time.OffsetDateTime.at_instant.Goals as goal
 
 same : (t x o u : ℤ) → u ≡ instant_at x o → x ≡ local_at t o → u ≡ t

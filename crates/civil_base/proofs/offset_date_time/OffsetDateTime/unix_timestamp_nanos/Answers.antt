@@ -1,8 +1,7 @@
 use Rattle.std.proofs.Common.{rules, arith, ◌≡◌, ℤ, to_z, of_z, to_z-of_z, FitsSigned}
 use mir.Syntax.{w128}
 use Rattle.basics.specs.SignedLaws.{signed}
-use Rattle.civil_base.specs.DateTimes.{local_of, offset_of, instant}
-use Rattle.civil_base.specs.Instants.{local_at, instant_at}
+use Rattle.civil_base.specs.{DateTimes.{local_of, offset_of, instant}, Instants.{local_at, instant_at}}
 use Rattle.civil_base.proofs.offset_date_time.OffsetDateTime.unix_timestamp_nanos.Goals as goal
 
 pub returns-clause-value : goal.returns-clause-value

@@ -1,9 +1,6 @@
 use Rattle.std.proofs.Common.{arith, ◌≡◌, ℕ, ◌/◌, ℤ, pos, ◌+ℤ◌, ◌-ℤ◌, to_z, of_z, w32, ◌∙◌}
 use Rattle.basics.specs.SignedLaws.{signed_casts}
-use Rattle.civil_base.specs.Layout.{day_part}
-use Rattle.civil_base.specs.Ranges.{IsDay}
-use Rattle.civil_base.specs.PartLaws.{day_part-blocks, day_part-inside}
-use Rattle.civil_base.specs.RangeLaws.{years_begin, years_end}
+use Rattle.civil_base.specs.{Layout.{day_part}, Ranges.{IsDay}, PartLaws.{day_part-blocks, day_part-inside}, RangeLaws.{years_begin, years_end}}
 use Rattle.civil_base.proofs.plain_date_time.PlainDateTime.date.Goals as goal
 
 -- the day number that the code subtracts to

@@ -1,8 +1,6 @@
 use Rattle.std.proofs.Common.{arith, ◌≡◌, ◌≤◌, ◌*◌, ℤ, unsigned_abs}
 use Rattle.basics.specs.SignedLaws.{signed, signed_casts, one_sided}
-use Rattle.civil_base.specs.Instants.{instant_at}
-use Rattle.civil_base.specs.Ranges.{IsInYears, IsOffset, far_seconds}
-use Rattle.civil_base.specs.RangeLaws.{years_begin, years_end, offset_size}
+use Rattle.civil_base.specs.{Instants.{instant_at}, Ranges.{IsInYears, IsOffset, far_seconds}, RangeLaws.{years_begin, years_end, offset_size}}
 use Rattle.civil_base.proofs.plain_date_time.PlainDateTime.instant_with.Goals as goal
 
 pub overflow_sub-result : goal.overflow_sub-result

@@ -1,8 +1,7 @@
 use Rattle.std.proofs.Common.{arith, ◌≡◌, pos, ◌+ℤ◌, ◌*ℤ◌, to_z, of_z}
 use mir.Syntax.{w128}
 use Rattle.basics.specs.SignedLaws.{signed_casts}
-use Rattle.civil_base.specs.DayRangeLaws.{years-joined, day-numbers}
-use Rattle.civil_base.specs.Clock.{nanos_per_day}
+use Rattle.civil_base.specs.{DayRangeLaws.{years-joined, day-numbers}, Clock.{nanos_per_day}}
 use Rattle.civil_base.proofs.plain_date_time.PlainDateTime.new.Goals as goal
 
 pub invariant_of-result : goal.invariant_of-result

@@ -1,7 +1,5 @@
-use Rattle.std.proofs.Common.{rules, arith, ◌≤◌, ◌≡◌, ℕ, ◌+◌, ◌*◌, Bool, ℤ, to_z, of_z, to_z-of_z, FitsSigned, w32, ap, ◌∙◌, unsigned_abs}
-use Rattle.std.proofs.lemmas.Int.{ints}
-use Rattle.civil_base.specs.RangeLaws.{offset_by_size}
-use Rattle.civil_base.specs.Ranges.{greatest_offset}
+use Rattle.std.proofs.{Common.{rules, arith, ◌≤◌, ◌≡◌, ℕ, ◌+◌, ◌*◌, Bool, ℤ, to_z, of_z, to_z-of_z, FitsSigned, w32, ap, ◌∙◌, unsigned_abs}, lemmas.Int.{ints}}
+use Rattle.civil_base.specs.{RangeLaws.{offset_by_size}, Ranges.{greatest_offset}}
 use mir.Syntax.{w8}
 use Rattle.civil_base.specs.Offsets.{offset_at, is_first_negative, signed_by}
 use Rattle.civil_base.proofs.utc_offset.UtcOffset.from_hms.Goals as goal

@@ -1,8 +1,5 @@
-use Rattle.std.proofs.Common.{ℕ, List, ◌≡◌, ◌∙◌, sym, ap, Option, Some, None}
-use Rattle.std.specs.Int.{w128, to_be_bytes}
-use Rattle.civil_items.specs.Codes.{code, code_bytes, Decodes}
-use Rattle.civil_items.specs.declared.config.Config.{Config}
-use Rattle.civil_items.proofs.CodeLemmas.{bytes_of_code}
+use Rattle.std.{proofs.Common.{ℕ, List, ◌≡◌, ◌∙◌, sym, ap, Option, Some, None}, specs.Int.{w128, to_be_bytes}}
+use Rattle.civil_items.{specs.Codes.{code, code_bytes, Decodes}, specs.declared.config.Config.{Config}, proofs.CodeLemmas.{bytes_of_code}}
 use Rattle.civil_items.proofs.config.Config.decode.Goals as goal
 
 -- the bytes of the number are those of each configuration that it stands for

@@ -1,16 +1,8 @@
 use Rattle.std.specs.Prelude.{ℤ, IfSome, [], Option, Some, None}
-use Rattle.civil_base.specs.DateTimes.{instant}
-use Rattle.civil_base.specs.Instants.{seconds_of}
-use Rattle.tz_tzif.specs.FooterForce.{FooterZone}
-use Rattle.tz_tzif.specs.InForce.{kind_in, told_total_at}
-use Rattle.tz_tzif.specs.Zones.{value_of, says_of, IsZoneOf}
-use Rattle.tz_tzif.specs.declared.zone.TzifTz.{TzifTz}
+use Rattle.civil_base.specs.{DateTimes.{instant}, Instants.{seconds_of}}
+use Rattle.tz_tzif.specs.{FooterForce.{FooterZone}, InForce.{kind_in, told_total_at}, Zones.{value_of, says_of, IsZoneOf}, declared.zone.TzifTz.{TzifTz}}
 use Rattle.zone_tzif_core.specs.Zones.{ZoneValue}
-use Rattle.sefunjaro.specs.Answers.{IsAnswered, IsHeldOn}
-use Rattle.sefunjaro.specs.Files.{file_value, given_at, SaysOf}
-use Rattle.sefunjaro.specs.declared.answer.Answer.{Answer}
-use Rattle.sefunjaro.specs.declared.file.FileZone.{FileZone}
-use Rattle.sefunjaro.proofs.FileLemmas.{lent}
+use Rattle.sefunjaro.{specs.Answers.{IsAnswered, IsHeldOn}, specs.Files.{file_value, given_at, SaysOf}, specs.declared.answer.Answer.{Answer}, specs.declared.file.FileZone.{FileZone}, proofs.FileLemmas.{lent}}
 use Rattle.sefunjaro.proofs.file.FileZone.answer_at.Goals as goal
 
 pub returns-clause-answer : goal.returns-clause-answer

@@ -1,6 +1,5 @@
 use Rattle.tz_tzif.specs.InForce.{told_total_at}
-use Rattle.sefunjaro.specs.Shown.{AreClocks}
-use Rattle.sefunjaro.proofs.FileLemmas.{lent}
+use Rattle.sefunjaro.{specs.Shown.{AreClocks}, proofs.FileLemmas.{lent}}
 use Rattle.sefunjaro.proofs.file.FileZone.clocks_at.Goals as goal
 
 pub returns : goal.returns

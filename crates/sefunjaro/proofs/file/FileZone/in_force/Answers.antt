@@ -1,8 +1,6 @@
 use Rattle.civil_base.specs.DateTimes.{instant}
 use Rattle.tz_tzif.specs.InForce.{told_total_at}
-use Rattle.sefunjaro.specs.Answered.{IsInForce}
-use Rattle.sefunjaro.specs.Files.{given_at}
-use Rattle.sefunjaro.proofs.FileLemmas.{lent}
+use Rattle.sefunjaro.{specs.Answered.{IsInForce}, specs.Files.{given_at}, proofs.FileLemmas.{lent}}
 use Rattle.sefunjaro.proofs.file.FileZone.in_force.Goals as goal
 
 pub returns : goal.returns

@@ -1,6 +1,5 @@
 use Rattle.tz_tzif.specs.InForce.{told_total_at}
-use Rattle.sefunjaro.specs.Found.{AreToldOf}
-use Rattle.sefunjaro.proofs.FileLemmas.{lent}
+use Rattle.sefunjaro.{specs.Found.{AreToldOf}, proofs.FileLemmas.{lent}}
 use Rattle.sefunjaro.proofs.file.FileZone.instants_of.Goals as goal
 
 pub returns : goal.returns

@@ -1,8 +1,6 @@
 use Rattle.std.proofs.Common.{◌≡◌}
 use Rattle.tz_tzif.specs.InForce.{told_total_at}
-use Rattle.sefunjaro.specs.Offsets.{offsets_of}
-use Rattle.sefunjaro.specs.Rooms.{filled}
-use Rattle.sefunjaro.proofs.FileLemmas.{lent}
+use Rattle.sefunjaro.{specs.Offsets.{offsets_of}, specs.Rooms.{filled}, proofs.FileLemmas.{lent}}
 use Rattle.sefunjaro.proofs.file.FileZone.offsets_at.Goals as goal
 
 pub returns : goal.returns

@@ -1,6 +1,5 @@
 use Rattle.tz_tzif.specs.InForce.{told_total_at}
-use Rattle.sefunjaro.specs.Answered.{AreReadings}
-use Rattle.sefunjaro.proofs.FileLemmas.{lent}
+use Rattle.sefunjaro.{specs.Answered.{AreReadings}, proofs.FileLemmas.{lent}}
 use Rattle.sefunjaro.proofs.file.FileZone.readings.Goals as goal
 
 pub returns-clause-answer : goal.returns-clause-answer

@@ -1,8 +1,5 @@
 use Rattle.std.proofs.Common.{◌≡◌, ◌∙◌, ℤ, Option, Some, None, IfSome, to_z-of_z, FitsSigned, w32, w64, rules, sym, ap, subst}
-use Rattle.civil_base.specs.DateTimes.{instant, offset_of}
-use Rattle.civil_base.specs.Instants.{local_at}
-use Rattle.civil_base.specs.Ranges.{is_in_years}
-use Rattle.civil_base.specs.declared.offset_date_time.OffsetDateTime.{OffsetDateTime}
+use Rattle.civil_base.specs.{DateTimes.{instant, offset_of}, Instants.{local_at}, Ranges.{is_in_years}, declared.offset_date_time.OffsetDateTime.{OffsetDateTime}}
 use Rattle.tz_tzif.specs.InForce.{kind_at, told_total_at, total_in}
 use Rattle.tz_zone.specs.InForce.{shown_of}
 use Rattle.sefunjaro.specs.Files.{file_value}

@@ -1,6 +1,5 @@
 use Rattle.tz_tzif.specs.InForce.{told_total_at}
-use Rattle.sefunjaro.specs.Shown.{AreTexts}
-use Rattle.sefunjaro.proofs.FileLemmas.{lent}
+use Rattle.sefunjaro.{specs.Shown.{AreTexts}, proofs.FileLemmas.{lent}}
 use Rattle.sefunjaro.proofs.file.FileZone.texts_at.Goals as goal
 
 pub returns : goal.returns

@@ -1,15 +1,8 @@
-use Rattle.std.proofs.Common.{◌≡◌, pos, ◌-ℤ◌, to_z, of_z, to_z-of_z, w64, ap, ◌∙◌}
-use Rattle.std.proofs.lemmas.Result.{IfOk-weaker}
-use Rattle.std.specs.Prelude.{Option}
-use Rattle.tz_ever.specs.declared.ever_set.EverSet.{EverSet}
-use Rattle.zone_replies.specs.Forces.{force_shown}
-use Rattle.zone_replies.specs.declared.force.Force.{Force}
-use Rattle.tz_ever.specs.TablesShown.{unrolled_of}
+use Rattle.std.{proofs.Common.{◌≡◌, pos, ◌-ℤ◌, to_z, of_z, to_z-of_z, w64, ap, ◌∙◌}, proofs.lemmas.Result.{IfOk-weaker}, specs.Prelude.{Option}}
+use Rattle.tz_ever.specs.{declared.ever_set.EverSet.{EverSet}, TablesShown.{unrolled_of}}
+use Rattle.zone_replies.specs.{Forces.{force_shown}, declared.force.Force.{Force}}
 use Rattle.tz_lookup.specs.CompactShown.{seen}
-use Rattle.sefunjaro.specs.Changes.{span_before}
-use Rattle.sefunjaro.specs.Replies.{force_of, span_on}
-use Rattle.sefunjaro.specs.Zones.{set_in, spans_in, spans_with}
-use Rattle.sefunjaro.proofs.ReplyLemmas.{until_is}
+use Rattle.sefunjaro.{specs.Changes.{span_before}, specs.Replies.{force_of, span_on}, specs.Zones.{set_in, spans_in, spans_with}, proofs.ReplyLemmas.{until_is}}
 use Rattle.sefunjaro.proofs.replies.OpenZoneReplyZone.force_before.Goals as goal
 
 pub returns-in-Some : goal.returns-in-Some

@@ -1,16 +1,10 @@
-use Rattle.std.proofs.Common.{◌≡◌, map, ap, ◌∙◌}
-use Rattle.std.proofs.lemmas.Result.{IfOk-weaker}
-use Rattle.std.specs.Prelude.{Option}
+use Rattle.std.{proofs.Common.{◌≡◌, map, ap, ◌∙◌}, proofs.lemmas.Result.{IfOk-weaker}, specs.Prelude.{Option}}
 use Rattle.civil_base.specs.DateTimes.{instant}
-use Rattle.tz_ever.specs.Ever.{ever_total}
-use Rattle.tz_ever.specs.EverZones.{ever_of}
+use Rattle.tz_ever.specs.{Ever.{ever_total}, EverZones.{ever_of}, declared.ever_set.EverSet.{EverSet}}
 use Rattle.tz_lookup.specs.CompactZones.{compact_of}
-use Rattle.tz_ever.specs.declared.ever_set.EverSet.{EverSet}
 use Rattle.zone_spans.specs.Schedules.{instants, total_at}
-use Rattle.tz_zone.specs.InForce.{all_in_force, shown_of}
-use Rattle.tz_zone.specs.Sets.{schedule_of}
-use Rattle.sefunjaro.specs.Zones.{set_in, total_in, total_with}
-use Rattle.sefunjaro.proofs.ReplyLemmas.{dates_of}
+use Rattle.tz_zone.specs.{InForce.{all_in_force, shown_of}, Sets.{schedule_of}}
+use Rattle.sefunjaro.{specs.Zones.{set_in, total_in, total_with}, proofs.ReplyLemmas.{dates_of}}
 use Rattle.sefunjaro.proofs.replies.OpenZoneReplyZone.instants.Goals as goal
 
 pub returns-in-Some : goal.returns-in-Some

@@ -1,8 +1,6 @@
-use Rattle.std.proofs.Common.{◌≡◌, to_z, of_z, to_z-of_z, w64, ap, ◌∙◌}
-use Rattle.std.specs.Prelude.{Option}
+use Rattle.std.{proofs.Common.{◌≡◌, to_z, of_z, to_z-of_z, w64, ap, ◌∙◌}, specs.Prelude.{Option}}
 use Rattle.tz_ever.specs.declared.ever_set.EverSet.{EverSet}
-use Rattle.sefunjaro.specs.Zones.{set_in, spans_with}
-use Rattle.sefunjaro.specs.Replies.{force_of, span_on}
+use Rattle.sefunjaro.specs.{Zones.{set_in, spans_with}, Replies.{force_of, span_on}}
 use Rattle.sefunjaro.proofs.replies.OpenZoneReplyZone.offset_at.Goals as goal
 
 pub returns-in-Some : goal.returns-in-Some

@@ -1,5 +1,4 @@
-use Rattle.std.proofs.Common.{ap}
-use Rattle.std.proofs.lemmas.Option.{IfSome_then}
+use Rattle.std.proofs.{Common.{ap}, lemmas.Option.{IfSome_then}}
 use Rattle.tz_zone.specs.InForce.{shown_of}
 use Rattle.sefunjaro.proofs.replies.OpenZoneReplyZone.shown_at.Goals as goal
 

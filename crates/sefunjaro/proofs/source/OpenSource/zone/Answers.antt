@@ -1,5 +1,4 @@
-use Rattle.sefunjaro.specs.Sources.{table_in}
-use Rattle.sefunjaro.proofs.ZoneLemmas.{as_compiled}
+use Rattle.sefunjaro.{specs.Sources.{table_in}, proofs.ZoneLemmas.{as_compiled}}
 use Rattle.sefunjaro.proofs.source.OpenSource.zone.Goals as goal
 
 pub returns-in-Ok-clause-as_compiled : goal.returns-in-Ok-clause-as_compiled

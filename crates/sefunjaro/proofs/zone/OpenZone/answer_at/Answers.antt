@@ -1,16 +1,8 @@
-use Rattle.std.proofs.Common.{◌≡◌, ◌≤ℤ◌, ◌<ℤ◌, ℤ, true, sym, subst}
-use Rattle.std.specs.Prelude.{IfSome, Option, Some, None}
-use Rattle.civil_base.specs.DateTimes.{instant}
-use Rattle.tz_ever.specs.EverShown.{ever_seen}
-use Rattle.tz_ever.specs.Unrolled.{unrolled}
-use Rattle.tz_ever.specs.declared.ever_set.EverSet.{EverSet}
-use Rattle.civil_base.specs.Instants.{seconds_of}
-use Rattle.sefunjaro.specs.Answers.{IsAnswered, IsBetween}
-use Rattle.sefunjaro.specs.AnswerSteps.{IsToldBySpan}
-use Rattle.sefunjaro.specs.Changes.{saving_at}
-use Rattle.sefunjaro.specs.Zones.{given_with, set_in, spans_with, total_with}
-use Rattle.sefunjaro.proofs.AnswerLemmas.{answered, saved, shows_itself, shows_unrolled}
-use Rattle.sefunjaro.proofs.UntilLemmas.{held}
+use Rattle.std.{proofs.Common.{◌≡◌, ◌≤ℤ◌, ◌<ℤ◌, ℤ, true, sym, subst}, specs.Prelude.{IfSome, Option, Some, None}}
+use Rattle.civil_base.specs.{DateTimes.{instant}, Instants.{seconds_of}}
+use Rattle.tz_ever.specs.{EverShown.{ever_seen}, Unrolled.{unrolled}, declared.ever_set.EverSet.{EverSet}}
+use Rattle.sefunjaro.specs.{Answers.{IsAnswered, IsBetween}, AnswerSteps.{IsToldBySpan}, Changes.{saving_at}, Zones.{given_with, set_in, spans_with, total_with}}
+use Rattle.sefunjaro.proofs.{AnswerLemmas.{answered, saved, shows_itself, shows_unrolled}, UntilLemmas.{held}}
 use Rattle.sefunjaro.proofs.zone.OpenZone.answer_at.Goals as goal
 
 pub returns-in-Some-clause-answer : goal.returns-in-Some-clause-answer

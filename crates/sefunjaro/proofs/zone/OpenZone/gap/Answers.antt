@@ -1,5 +1,4 @@
-use Rattle.std.proofs.Common.{◌≡◌, length, subst}
-use Rattle.std.specs.Prelude.{Option}
+use Rattle.std.{proofs.Common.{◌≡◌, length, subst}, specs.Prelude.{Option}}
 use Rattle.tz_ever.specs.declared.ever_set.EverSet.{EverSet}
 use Rattle.tz_zone.specs.InForce.{all_in_force}
 use Rattle.sefunjaro.specs.Zones.{set_in, total_with}

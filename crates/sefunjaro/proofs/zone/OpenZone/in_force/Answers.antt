@@ -1,11 +1,8 @@
-use Rattle.std.proofs.Common.{sym, subst}
-use Rattle.std.specs.Prelude.{Option}
+use Rattle.std.{proofs.Common.{sym, subst}, specs.Prelude.{Option}}
 use Rattle.civil_base.specs.DateTimes.{instant}
-use Rattle.tz_ever.specs.Ever.{GivesEver}
-use Rattle.tz_ever.specs.declared.ever_set.EverSet.{EverSet}
+use Rattle.tz_ever.specs.{Ever.{GivesEver}, declared.ever_set.EverSet.{EverSet}}
 use Rattle.tz_zone.specs.InForce.{GivesAt}
-use Rattle.sefunjaro.specs.Asked.{IsNamed}
-use Rattle.sefunjaro.specs.Zones.{given_with, set_in}
+use Rattle.sefunjaro.specs.{Asked.{IsNamed}, Zones.{given_with, set_in}}
 use Rattle.sefunjaro.proofs.zone.OpenZone.in_force.Goals as goal
 
 pub returns-in-Some-clause-name : goal.returns-in-Some-clause-name

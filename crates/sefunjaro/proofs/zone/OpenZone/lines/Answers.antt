@@ -1,6 +1,5 @@
 use Rattle.std.proofs.Common.{◌≡◌, ℤ, Err, ap, ◌∙◌, sym, to_z-of_z}
-use Rattle.zone_list.specs.Ranges.{all_have_dates}
-use Rattle.zone_list.specs.Windows.{window}
+use Rattle.zone_list.specs.{Ranges.{all_have_dates}, Windows.{window}}
 use Rattle.sefunjaro.specs.Zones.{spans_in}
 use Rattle.sefunjaro.proofs.zone.OpenZone.lines.Goals as goal
 

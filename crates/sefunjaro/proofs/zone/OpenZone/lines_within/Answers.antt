@@ -1,10 +1,6 @@
-use Rattle.std.proofs.Common.{◌≡◌, ◌∙◌, ℤ, false, sym, ap, subst, to_z-of_z}
-use Rattle.std.specs.Prelude.{IfOk, IsErrOf}
+use Rattle.std.{proofs.Common.{◌≡◌, ◌∙◌, ℤ, false, sym, ap, subst, to_z-of_z}, specs.Prelude.{IfOk, IsErrOf}}
 use Rattle.tz_zone.specs.declared.set.FixedTimespanSet.{FixedTimespanSet}
-use Rattle.zone_list.specs.Ranges.{all_have_dates}
-use Rattle.zone_list.specs.Rows.{rows}
-use Rattle.zone_list.specs.Windows.{window}
-use Rattle.zone_list.specs.declared.listing.ListFault.TheVariants.{Range}
+use Rattle.zone_list.specs.{Ranges.{all_have_dates}, Rows.{rows}, Windows.{window}, declared.listing.ListFault.TheVariants.{Range}}
 use Rattle.sefunjaro.specs.Zones.{set_in, spans_with}
 use Rattle.sefunjaro.proofs.zone.OpenZone.lines_within.Goals as goal
 

@@ -6,14 +6,11 @@ use denote.Param.Send.{AllSend, IsSend, owning_send, sendable, struct_send}
 use denote.RawPtr.{Ptr}
 use denote.Struct.Owning.{fields, shape, to}
 use denote.Struct.Struct.{exits_of}
-use Rattle.std.proofs.Crossing.{frees}
-use Rattle.sefunjaro_handles.specs.Heap.{the_heap}
-use Rattle.std.specs.Prelude.{Option, Some, None}
-use Rattle.std_alloc.proofs.SendSync.{lies, quiet}
-use Rattle.sefunjaro_handles.specs.Handles.{owned_at}
+use Rattle.std.{proofs.Crossing.{frees}, specs.Prelude.{Option, Some, None}}
+use Rattle.sefunjaro_handles.{specs.Heap.{the_heap}, specs.Handles.{owned_at}, proofs.opened.Opened.TheSendSync.{the_send as a_value}}
 use Rattle.sefunjaro_handles.specs.contracts.opened.Opened as Opened
-use Rattle.sefunjaro_handles.proofs.opened.Opened.TheSendSync.{the_send as a_value}
 use Rattle.sefunjaro_handles.specs.contracts.handle.Held as Held
+use Rattle.std_alloc.proofs.SendSync.{lies, quiet}
 
 goes : (at : Ptr) (held : Option Opened.the_row.Denot) → Keyless (owned_at at held)
 goes at None = tt

@@ -23,21 +23,13 @@ use denote.Triple.Clauses.{Lasts, lasts}
 use denote.Triple.Spec.{triple_of}
 use denote.Triple.Table.{framed}
 use denote.Triple.Walked.{says, Stays, stay_dropped, walk_of, ends_at, Goes-dropped}
-use Rattle.std.proofs.alloc.Calls.{handle_tells}
-use Rattle.std.proofs.raw_atomic.Walks.{proved_at}
+use Rattle.std.{proofs.alloc.Calls.{handle_tells}, proofs.raw_atomic.Walks.{proved_at}, proofs.BoxSteps.Steps.{box_out, box_in}, proofs.impls.GlobalAllocator.TheImpl.Met.{passed}, specs.Prelude.{Some, is_some}, proofs.boxed.Box.from_raw.Met.{met}}
 use Rattle.std.proofs.BoxSteps.Form as box
-use Rattle.std.proofs.BoxSteps.Steps.{box_out, box_in}
-use Rattle.std.proofs.impls.GlobalAllocator.TheImpl.Met.{passed}
-use Rattle.std.specs.Prelude.{Some, is_some}
 use Rattle.std.specs.contracts.alloc.Global as Global
 use Rattle.std.specs.contracts.boxed.Box.from_raw as boxed_again
-use Rattle.std.proofs.boxed.Box.from_raw.Met.{met}
-use Rattle.sefunjaro_handles.proofs.Destruct++none.drop.Code.{code as nothing_dropped}
-use Rattle.sefunjaro_handles.specs.Handles.{owned_at}
-use Rattle.sefunjaro_handles.proofs.Addresses.{a_box, address_fits, held_there, no_drop, opened, word, word_fits}
+use Rattle.sefunjaro_handles.{proofs.Destruct++none.drop.Code.{code as nothing_dropped}, specs.Handles.{owned_at}, proofs.Addresses.{a_box, address_fits, held_there, no_drop, opened, word, word_fits}, proofs.handle.Held.give_back.Statement.{statement}}
 use Rattle.sefunjaro_handles.specs.contracts.handle.Held as Held
 use Rattle.sefunjaro_handles.specs.contracts.handle.Held.give_back as F
-use Rattle.sefunjaro_handles.proofs.handle.Held.give_back.Statement.{statement}
 use Rattle.sefunjaro_handles.proofs.handle.Held.give_back.Code as code
 
 abbrev stays : Stays F.ended.signature.params F.ended.kept

@@ -14,14 +14,11 @@ use denote.RawPtr.{Ptr}
 use denote.Signature.{plain}
 use denote.Steps.{nothing}
 use denote.Triple.Walked.{says, Stays, stay_dropped, walk_of, ends_at, Goes-dropped}
-use Rattle.std.proofs.raw_atomic.Walks.{proved_at}
-use Rattle.std.specs.Prelude.{Some}
-use Rattle.sefunjaro_handles.specs.Handles.{owned_at}
-use Rattle.sefunjaro_handles.proofs.Addresses.{address_fits, made, opened, word, word_fits}
+use Rattle.std.{proofs.raw_atomic.Walks.{proved_at}, specs.Prelude.{Some}}
+use Rattle.sefunjaro_handles.{specs.Handles.{owned_at}, proofs.Addresses.{address_fits, made, opened, word, word_fits}, proofs.handle.Held.keep.Statement.{statement}}
 use Rattle.sefunjaro_handles.specs.contracts.opened.Opened as Opened
 use Rattle.sefunjaro_handles.specs.contracts.handle.Unboxed as Unboxed
 use Rattle.sefunjaro_handles.specs.contracts.handle.Held.keep as F
-use Rattle.sefunjaro_handles.proofs.handle.Held.keep.Statement.{statement}
 use Rattle.sefunjaro_handles.proofs.handle.Held.keep.Code as code
 
 abbrev stays : Stays F.ended.signature.params F.ended.kept

@@ -9,12 +9,9 @@ use denote.RawPtr.{null_ptr}
 use denote.Steps.{nothing}
 use denote.Triple.Entry.{on_entry}
 use denote.Triple.Walked.{says, Stays, walk_of, ends_at}
-use Rattle.std.proofs.raw_atomic.Walks.{proved}
-use Rattle.std.specs.Prelude.{None}
-use Rattle.sefunjaro_handles.specs.Handles.{owned_at}
-use Rattle.sefunjaro_handles.proofs.Addresses.{made, word, word_fits}
+use Rattle.std.{proofs.raw_atomic.Walks.{proved}, specs.Prelude.{None}}
+use Rattle.sefunjaro_handles.{specs.Handles.{owned_at}, proofs.Addresses.{made, word, word_fits}, proofs.handle.Held.nothing.Statement.{statement}}
 use Rattle.sefunjaro_handles.specs.contracts.handle.Held.nothing as F
-use Rattle.sefunjaro_handles.proofs.handle.Held.nothing.Statement.{statement}
 use Rattle.sefunjaro_handles.proofs.handle.Held.nothing.Code as code
 
 abbrev stays : Stays F.ended.signature.params F.ended.kept

@@ -27,22 +27,14 @@ use denote.Triple.Clauses.{Lasts, lasts}
 use denote.Triple.Spec.{triple_of}
 use denote.Triple.Table.{framed}
 use denote.Triple.Walked.{says, Stays, stay_dropped, walk_of, ends_at}
-use Rattle.std.proofs.alloc.Calls.{Al, Goes-blank}
-use Rattle.std.proofs.raw_atomic.Walks.{proved_at}
+use Rattle.std.{proofs.alloc.Calls.{Al, Goes-blank}, proofs.raw_atomic.Walks.{proved_at}, proofs.BoxSteps.Steps.{box_out, box_in}, proofs.impls.GlobalAllocator.TheImpl.Met.{passed}, specs.Box.Ownership.{box_owns}, proofs.boxed.Box.into_raw.Met.{met}}
 use Rattle.std.proofs.BoxSteps.Form as box
-use Rattle.std.proofs.BoxSteps.Steps.{box_out, box_in}
-use Rattle.std.proofs.impls.GlobalAllocator.TheImpl.Met.{passed}
-use Rattle.std.specs.Box.Ownership.{box_owns}
-use Rattle.sefunjaro_handles.specs.Heap.{token}
 use Rattle.std.specs.contracts.alloc.Global as Global
 use Rattle.std.specs.contracts.boxed.Box as Box
 use Rattle.std.specs.contracts.boxed.Box.into_raw as given_out
-use Rattle.std.proofs.boxed.Box.into_raw.Met.{met}
-use Rattle.sefunjaro_handles.proofs.Destruct++none.drop.Code.{code as nothing_dropped}
-use Rattle.sefunjaro_handles.proofs.Addresses.{address_fits, from_heap, made, no_drop, word, word_fits}
+use Rattle.sefunjaro_handles.specs.{Heap.{token}, contracts.handle.Unboxed.of.Key.{name as #self}}
+use Rattle.sefunjaro_handles.proofs.{Destruct++none.drop.Code.{code as nothing_dropped}, Addresses.{address_fits, from_heap, made, no_drop, word, word_fits}, handle.Unboxed.of.Statement.{statement}}
 use Rattle.sefunjaro_handles.specs.contracts.handle.Unboxed.of as F
-use Rattle.sefunjaro_handles.specs.contracts.handle.Unboxed.of.Key.{name as #self}
-use Rattle.sefunjaro_handles.proofs.handle.Unboxed.of.Statement.{statement}
 use Rattle.sefunjaro_handles.proofs.handle.Unboxed.of.Code as code
 
 pub of_spec : {M : Type 1} → statement M

@@ -6,9 +6,8 @@ use denote.Struct.Owning.{fields, shape, to}
 use denote.Struct.Struct.{exits_of}
 use Rattle.std.specs.Prelude.{Option, Some, None}
 use Rattle.std_alloc.proofs.SendSync.{quiet, seen}
-use Rattle.sefunjaro_handles.specs.Loans.{Loan, loan_owns}
+use Rattle.sefunjaro_handles.{specs.Loans.{Loan, loan_owns}, proofs.opened.Opened.TheSendSync.{the_sync as a_value}}
 use Rattle.sefunjaro_handles.specs.contracts.opened.Opened as Opened
-use Rattle.sefunjaro_handles.proofs.opened.Opened.TheSendSync.{the_sync as a_value}
 use Rattle.sefunjaro_handles.specs.contracts.view.Part as Part
 
 goes : (at : Ptr) (held : Option Opened.the_row.Denot) (loan : Loan) → Keyless (loan_owns at held loan)

@@ -14,13 +14,10 @@ use denote.RawPtr.{Ptr}
 use denote.Signature.{plain}
 use denote.Steps.{nothing}
 use denote.Triple.Walked.{says, Stays, stay_dropped, walk_of, ends_at, Goes-dropped}
-use Rattle.std.proofs.raw_atomic.Walks.{proved_at}
-use Rattle.std.specs.Prelude.{Some}
-use Rattle.sefunjaro_handles.specs.Loans.{part_owns}
-use Rattle.sefunjaro_handles.proofs.Addresses.{address_fits, made, opened, word, word_fits}
+use Rattle.std.{proofs.raw_atomic.Walks.{proved_at}, specs.Prelude.{Some}}
+use Rattle.sefunjaro_handles.{specs.Loans.{part_owns}, proofs.Addresses.{address_fits, made, opened, word, word_fits}, proofs.view.Part.keep.Statement.{statement}}
 use Rattle.sefunjaro_handles.specs.contracts.view.Reading as Reading
 use Rattle.sefunjaro_handles.specs.contracts.view.Part.keep as F
-use Rattle.sefunjaro_handles.proofs.view.Part.keep.Statement.{statement}
 use Rattle.sefunjaro_handles.proofs.view.Part.keep.Code as code
 
 abbrev stays : Stays F.ended.signature.params F.ended.kept

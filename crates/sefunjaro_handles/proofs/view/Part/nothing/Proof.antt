@@ -10,12 +10,9 @@ use denote.RawPtr.{null_ptr}
 use denote.Steps.{nothing}
 use denote.Triple.Entry.{on_entry}
 use denote.Triple.Walked.{says, Stays, walk_of, ends_at}
-use Rattle.std.proofs.raw_atomic.Walks.{proved}
-use Rattle.std.specs.Prelude.{None}
-use Rattle.sefunjaro_handles.specs.Loans.{loan_owns}
-use Rattle.sefunjaro_handles.proofs.Addresses.{made, word, word_fits}
+use Rattle.std.{proofs.raw_atomic.Walks.{proved}, specs.Prelude.{None}}
+use Rattle.sefunjaro_handles.{specs.Loans.{loan_owns}, proofs.Addresses.{made, word, word_fits}, proofs.view.Part.nothing.Statement.{statement}}
 use Rattle.sefunjaro_handles.specs.contracts.view.Part.nothing as F
-use Rattle.sefunjaro_handles.proofs.view.Part.nothing.Statement.{statement}
 use Rattle.sefunjaro_handles.proofs.view.Part.nothing.Code as code
 
 abbrev stays : Stays F.ended.signature.params F.ended.kept

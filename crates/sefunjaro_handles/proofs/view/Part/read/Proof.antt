@@ -15,13 +15,10 @@ use denote.RawPtr.{Ptr}
 use denote.Signature.{plain}
 use denote.Steps.{nothing, heard}
 use denote.Triple.Walked.{says, Stays, stay_dropped, walk_of, ends_at, Goes-dropped}
-use Rattle.std.proofs.raw_atomic.Walks.{proved_at}
-use Rattle.std.specs.Prelude.{is_some}
-use Rattle.sefunjaro_handles.specs.Loans.{loan_owns, part_owns}
-use Rattle.sefunjaro_handles.proofs.Addresses.{address_fits, made, lent_there, opened, word, word_fits}
+use Rattle.std.{proofs.raw_atomic.Walks.{proved_at}, specs.Prelude.{is_some}}
+use Rattle.sefunjaro_handles.{specs.Loans.{loan_owns, part_owns}, proofs.Addresses.{address_fits, made, lent_there, opened, word, word_fits}, proofs.view.Part.read.Statement.{statement}}
 use Rattle.sefunjaro_handles.specs.contracts.view.Part as Part
 use Rattle.sefunjaro_handles.specs.contracts.view.Part.read as F
-use Rattle.sefunjaro_handles.proofs.view.Part.read.Statement.{statement}
 use Rattle.sefunjaro_handles.proofs.view.Part.read.Code as code
 
 abbrev stays : Stays F.ended.signature.params F.ended.kept

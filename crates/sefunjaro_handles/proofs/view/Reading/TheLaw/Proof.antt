@@ -13,10 +13,10 @@ use denote.Param.Shared.{copy_shared}
 use denote.Struct.Field.{RawPtr-field}
 use denote.Struct.Laws.{RawPtr-copy}
 use denote.Struct.Lending.{lent_at, lent_at_shr_laws, Lends-both, of_Lends}
+use Rattle.sefunjaro_handles.proofs.view.Reading.TheLaw.Statement.{statement}
 use Rattle.sefunjaro_handles.specs.contracts.opened.Opened as Opened
 use Rattle.sefunjaro_handles.proofs.opened.Opened.TheLaws as opened_laws
 use Rattle.sefunjaro_handles.specs.contracts.view.Reading as C
-use Rattle.sefunjaro_handles.proofs.view.Reading.TheLaw.Statement.{statement}
 
 pub shares : statement
 shares =

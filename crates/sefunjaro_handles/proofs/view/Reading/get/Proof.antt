@@ -27,10 +27,9 @@ use denote.Struct.Owning.{shape}
 use denote.Struct.Lending.{in_block_says, lent_out}
 use denote.Triple.Walked.{says, Stays, stay_dropped, walk_of, ends_at, Goes-dropped}
 use Rattle.std.proofs.raw_atomic.Walks.{proved}
-use Rattle.sefunjaro_handles.proofs.Addresses.{word}
+use Rattle.sefunjaro_handles.proofs.{Addresses.{word}, view.Reading.get.Statement.{statement}}
 use Rattle.sefunjaro_handles.specs.contracts.view.Reading as C
 use Rattle.sefunjaro_handles.specs.contracts.view.Reading.get as F
-use Rattle.sefunjaro_handles.proofs.view.Reading.get.Statement.{statement}
 use Rattle.sefunjaro_handles.proofs.view.Reading.get.Code as code
 
 -- the struct of one address that memory has

@@ -1,7 +1,5 @@
 use Rattle.std.proofs.Common.{arith}
-use Rattle.tz_ever.specs.EverShown.{ever_seen}
-use Rattle.tz_ever.proofs.TableLemmas.{counts_rise, place_kept, place_later, some_in_cycle}
-use Rattle.tz_ever.proofs.UnrolledShows.{set_climbs}
+use Rattle.tz_ever.{specs.EverShown.{ever_seen}, proofs.TableLemmas.{counts_rise, place_kept, place_later, some_in_cycle}, proofs.UnrolledShows.{set_climbs}}
 use Rattle.tz_ever.proofs.ever_table.EverTable.place.Goals as goal
 
 pub overflow_sub-count : goal.overflow_sub-count

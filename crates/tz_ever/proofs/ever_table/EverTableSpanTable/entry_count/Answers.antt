@@ -1,8 +1,5 @@
 use Rattle.std.proofs.Common.{ap, arith, length}
-use Rattle.tz_ever.specs.EverShown.{ever_seen}
-use Rattle.tz_ever.specs.Unrolled.{next_seam_second}
-use Rattle.tz_ever.proofs.TableLemmas.{before_length, counts_rise, kept_length, start_is, unrolled_length}
-use Rattle.tz_ever.proofs.UnrolledShows.{set_climbs}
+use Rattle.tz_ever.{specs.EverShown.{ever_seen}, specs.Unrolled.{next_seam_second}, proofs.TableLemmas.{before_length, counts_rise, kept_length, start_is, unrolled_length}, proofs.UnrolledShows.{set_climbs}}
 use Rattle.tz_ever.proofs.ever_table.EverTableSpanTable.entry_count.Goals as goal
 
 pub overflow_sub-result : goal.overflow_sub-result

@@ -1,7 +1,6 @@
 use Rattle.std.proofs.Common.{◌+◌, ap, ◌∙◌}
 use Rattle.tz_zone.specs.Sets.{span_in}
-use Rattle.tz_ever.specs.EverShown.{ever_seen}
-use Rattle.tz_ever.proofs.TableLemmas.{span_of_place}
+use Rattle.tz_ever.{specs.EverShown.{ever_seen}, proofs.TableLemmas.{span_of_place}}
 use Rattle.tz_ever.proofs.ever_table.EverTableSpanTable.span.Goals as goal
 
 pub returns-else-index-eq0 : goal.returns-else-index-eq0

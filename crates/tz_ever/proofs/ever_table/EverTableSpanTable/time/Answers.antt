@@ -1,9 +1,6 @@
-use Rattle.std.proofs.Common.{◌≡◌, pos, ◌*◌, ◌+ℤ◌, to_z, of_z, w64, SFits, rules, ap, subst, sym, ◌∙◌}
-use Rattle.std.proofs.lemmas.Int.{to_z-of_z}
-use Rattle.tz_zone.specs.Sets.{IsSpanTime, shifts_of}
-use Rattle.tz_zone.specs.Spans.{shift_at}
-use Rattle.tz_ever.specs.EverShown.{ever_seen}
-use Rattle.tz_ever.proofs.TableLemmas.{time_bound, time_of_place}
+use Rattle.std.proofs.{Common.{◌≡◌, pos, ◌*◌, ◌+ℤ◌, to_z, of_z, w64, SFits, rules, ap, subst, sym, ◌∙◌}, lemmas.Int.{to_z-of_z}}
+use Rattle.tz_zone.specs.{Sets.{IsSpanTime, shifts_of}, Spans.{shift_at}}
+use Rattle.tz_ever.{specs.EverShown.{ever_seen}, proofs.TableLemmas.{time_bound, time_of_place}}
 use Rattle.tz_ever.proofs.ever_table.EverTableSpanTable.time.Goals as goal
 
 pub later-requires-clause-second : goal.later-requires-clause-second

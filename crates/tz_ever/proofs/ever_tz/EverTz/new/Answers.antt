@@ -1,9 +1,7 @@
 use Rattle.std.proofs.Common.{sym, ◌∙◌, subst}
-use Rattle.tz_ever.specs.Ever.{IsRepeating, ever_total}
-use Rattle.tz_ever.specs.Seam.{brought_back}
-use Rattle.tz_lookup.specs.CompactZones.{compact_of}
-use Rattle.tz_ever.proofs.AnswerLemmas.{few_for_ever}
+use Rattle.tz_ever.{specs.Ever.{IsRepeating, ever_total}, specs.Seam.{brought_back}, proofs.AnswerLemmas.{few_for_ever}}
 use Rattle.tz_ever.proofs.ever_tz.EverTz.new.Goals as goal
+use Rattle.tz_lookup.specs.CompactZones.{compact_of}
 
 pub invariant_of-result : goal.invariant_of-result
 unfolding ever_total

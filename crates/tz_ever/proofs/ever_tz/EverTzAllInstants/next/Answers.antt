@@ -1,6 +1,5 @@
 use Rattle.std.proofs.Common.{map, ap, sym, ◌∙◌, ◌∷◌}
-use Rattle.civil_base.specs.DateTimes.{at_offset, offset_of}
-use Rattle.civil_base.specs.declared.offset_date_time.OffsetDateTime.{OffsetDateTime}
+use Rattle.civil_base.specs.{DateTimes.{at_offset, offset_of}, declared.offset_date_time.OffsetDateTime.{OffsetDateTime}}
 use Rattle.tz_lookup.specs.CompactZones.{compact_of}
 use Rattle.tz_ever.specs.Ever.{ever_left}
 use Rattle.tz_ever.proofs.ever_tz.EverTzAllInstants.next.Goals as goal

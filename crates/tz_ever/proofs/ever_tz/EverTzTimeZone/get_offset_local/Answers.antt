@@ -1,8 +1,7 @@
 use Rattle.civil_base.specs.DateTimes.{local_of}
 use Rattle.tz_lookup.specs.CompactZones.{compact_of}
 use Rattle.tz_zone.specs.AnswerLaws.{instants_of_offsets}
-use Rattle.tz_ever.specs.Ever.{ever_total}
-use Rattle.tz_ever.proofs.AnswerLemmas.{names_back, totals_back}
+use Rattle.tz_ever.{specs.Ever.{ever_total}, proofs.AnswerLemmas.{names_back, totals_back}}
 use Rattle.tz_ever.proofs.ever_tz.EverTzTimeZone.get_offset_local.Goals as goal
 
 pub returns-clause-totals : goal.returns-clause-totals

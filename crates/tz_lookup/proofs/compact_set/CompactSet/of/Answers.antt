@@ -1,12 +1,8 @@
 use Rattle.std.proofs.Common.{◌≡◌, ◌↔◌, ℤ, ◌≤◌, length, IsTrue, sym, ap, ◌∙◌, subst}
 use Rattle.civil_base.specs.Ranges.{IsOffset}
 use Rattle.zone_spans.specs.Schedules.{instants, total_at}
-use Rattle.tz_zone.specs.Sets.{schedule_of, shifts_of, IsAccepted, IsOrderlyZone}
-use Rattle.tz_zone.specs.declared.set.FixedTimespanSet.{FixedTimespanSet}
-use Rattle.tz_lookup.specs.Compact.{set_seen}
-use Rattle.tz_lookup.specs.Kinds.{kinds_of}
-use Rattle.tz_lookup.specs.YearCounts.{AreYearCounts}
-use Rattle.tz_lookup.proofs.BuildLemmas.{ended}
+use Rattle.tz_zone.specs.{Sets.{schedule_of, shifts_of, IsAccepted, IsOrderlyZone}, declared.set.FixedTimespanSet.{FixedTimespanSet}}
+use Rattle.tz_lookup.{specs.Compact.{set_seen}, specs.Kinds.{kinds_of}, specs.YearCounts.{AreYearCounts}, proofs.BuildLemmas.{ended}}
 use Rattle.tz_lookup.proofs.compact_set.CompactSet.of.Goals as goal
 
 the_set : (c : goal.After-is_orderly-orderly)

@@ -1,6 +1,5 @@
 use Rattle.std.proofs.Common.{◌<◌, ◌-◌, length, arith, sym, subst, ap, ◌∙◌}
-use Rattle.tz_lookup.specs.Kinds.{kind_in}
-use Rattle.tz_lookup.proofs.CompactLemmas.{seen_length, span_seen, kind_read}
+use Rattle.tz_lookup.{specs.Kinds.{kind_in}, proofs.CompactLemmas.{seen_length, span_seen, kind_read}}
 use Rattle.tz_lookup.proofs.compact_set.CompactSetSpanTable.span.Goals as goal
 
 pub get-requires : goal.get-requires

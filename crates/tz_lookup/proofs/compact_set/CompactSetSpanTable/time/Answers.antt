@@ -1,5 +1,4 @@
-use Rattle.std.proofs.Common.{pos, w64, SFits, rules, slice_index_or, arith, ap, length, ◌∙◌}
-use Rattle.std.proofs.lemmas.Int.{to_z-of_z}
+use Rattle.std.proofs.{Common.{pos, w64, SFits, rules, slice_index_or, arith, ap, length, ◌∙◌}, lemmas.Int.{to_z-of_z}}
 use Rattle.tz_lookup.proofs.CompactLemmas.{seen_length, time_seen}
 use Rattle.tz_lookup.proofs.compact_set.CompactSetSpanTable.time.Goals as goal
 

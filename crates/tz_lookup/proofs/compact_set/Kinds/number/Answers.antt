@@ -1,7 +1,5 @@
 use Rattle.std.proofs.Common.{map, ap, ◌∙◌}
-use Rattle.tz_lookup.specs.Kinds.{with_kind}
-use Rattle.tz_lookup.specs.KindShown.{kind_shown}
-use Rattle.tz_lookup.proofs.KindLemmas.{shown_insert, stored_kind}
+use Rattle.tz_lookup.{specs.Kinds.{with_kind}, specs.KindShown.{kind_shown}, proofs.KindLemmas.{shown_insert, stored_kind}}
 use Rattle.tz_lookup.proofs.compact_set.Kinds.number.Goals as goal
 
 pub returns-clause-kinds : goal.returns-clause-kinds

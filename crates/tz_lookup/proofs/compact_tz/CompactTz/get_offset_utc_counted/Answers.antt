@@ -1,5 +1,4 @@
-use Rattle.std.proofs.Common.{w64, SFits, rules, sym, ◌∙◌}
-use Rattle.std.proofs.lemmas.Int.{to_z-of_z}
+use Rattle.std.proofs.{Common.{w64, SFits, rules, sym, ◌∙◌}, lemmas.Int.{to_z-of_z}}
 use Rattle.civil_base.specs.DateTimes.{instant}
 use Rattle.tz_lookup.proofs.compact_tz.CompactTz.get_offset_utc_counted.Goals as goal
 

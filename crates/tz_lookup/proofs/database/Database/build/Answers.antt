@@ -1,12 +1,7 @@
-use Rattle.std.proofs.Common.{map, sym, ap, ◌∙◌, subst}
-use Rattle.std.specs.List.{list_all}
-use Rattle.basics.specs.InOrderLaws.{RisesStrictly}
-use Rattle.basics.specs.Keyed.{text_cmp}
-use Rattle.tz_lookup.specs.Databases.{found_as, found_in, names_of, resolves}
-use Rattle.tz_lookup.specs.declared.database.Known.{Known}
-use Rattle.tz_lookup.proofs.DatabaseLemmas.{map-twice, names_found, names_resolve}
+use Rattle.std.{proofs.Common.{map, sym, ap, ◌∙◌, subst}, specs.List.{list_all}}
+use Rattle.basics.specs.{InOrderLaws.{RisesStrictly}, Keyed.{text_cmp}}
+use Rattle.tz_lookup.{specs.Databases.{found_as, found_in, names_of, resolves}, specs.declared.database.Known.{Known}, proofs.DatabaseLemmas.{map-twice, names_found, names_resolve}, proofs.DatabaseLaws.{names_rise}}
 use Rattle.tz_lookup.proofs.database.Database.build.Goals as goal
-use Rattle.tz_lookup.proofs.DatabaseLaws.{names_rise}
 
 pub know_all-requires-clause-found : goal.know_all-requires-clause-found
 know_all-requires-clause-found c = ap (list_all (resolves c.args.table.now)) c.in_ok-names.ensures ∙ names_resolve c.args.table.now

@@ -1,9 +1,6 @@
 use Rattle.std.proofs.Common.{refl, Ok, Err}
 use Rattle.civil_base.specs.DateTimes.{instant}
-use Rattle.tz_posix.specs.Offsets.{given_of}
-use Rattle.tz_posix.specs.PosixShown.{posix_of}
-use Rattle.tz_posix.specs.declared.error.Error.TheVariants.{ComponentRange}
-use Rattle.tz_posix.proofs.GivenLemmas.{converted, not_converted}
+use Rattle.tz_posix.{specs.Offsets.{given_of}, specs.PosixShown.{posix_of}, specs.declared.error.Error.TheVariants.{ComponentRange}, proofs.GivenLemmas.{converted, not_converted}}
 use Rattle.tz_posix.proofs.posix.PosixTz.convert.Goals as goal
 
 pub returns-in-Some : goal.returns-in-Some

@@ -1,6 +1,5 @@
 use Rattle.std.specs.Char.{is_ascii_digit}
-use Rattle.tz_posix.proofs.RunLemmas.{digit_is_ascii, boundary_after_run}
-use Rattle.tz_posix.specs.FoundLaws.{run_passes}
+use Rattle.tz_posix.{proofs.RunLemmas.{digit_is_ascii, boundary_after_run}, specs.FoundLaws.{run_passes}}
 use Rattle.tz_posix.proofs.read.numbers.split_digits.Goals as goal
 
 pub split_at-requires : goal.split_at-requires

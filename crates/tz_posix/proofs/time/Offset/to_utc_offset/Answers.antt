@@ -1,8 +1,7 @@
 use Rattle.std.proofs.Common.{arith, ◌≡◌, ℤ, w32, to_z, of_z, pos, ◌-ℤ◌}
 use Rattle.basics.specs.SignedLaws.{one_sided, signed, signed_casts}
 use Rattle.civil_base.specs.RangeLaws.{offset_by_size}
-use Rattle.tz_posix.specs.Seconds.{east_of}
-use Rattle.tz_posix.proofs.OffsetLemmas.{offset_seconds-within}
+use Rattle.tz_posix.{specs.Seconds.{east_of}, proofs.OffsetLemmas.{offset_seconds-within}}
 use Rattle.tz_posix.proofs.time.Offset.to_utc_offset.Goals as goal
 
 pub overflow_sub-to_seconds : goal.overflow_sub-to_seconds

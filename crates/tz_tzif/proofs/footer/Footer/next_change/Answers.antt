@@ -1,6 +1,5 @@
 use Rattle.std.proofs.Common.{ℤ, cond, FitsSigned, w64, rules, to_z-of_z, sym, ap, ◌∙◌}
-use Rattle.tz_tzif.specs.FooterShown.{held_shown, zone_shown}
-use Rattle.tz_tzif.specs.FooterForce.{held_at}
+use Rattle.tz_tzif.specs.{FooterShown.{held_shown, zone_shown}, FooterForce.{held_at}}
 use Rattle.tz_tzif.proofs.footer.Footer.next_change.Goals as goal
 
 pub returns-in-None-clause-same : goal.returns-in-None-clause-same

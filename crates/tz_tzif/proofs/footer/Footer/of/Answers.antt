@@ -1,8 +1,6 @@
 use Rattle.std.proofs.Common.{◌≡◌, None, option_map, subst}
 use Rattle.tz_posix.specs.Shown.{std_shown}
-use Rattle.tz_tzif.specs.Ranges.{footer_miss}
-use Rattle.tz_tzif.specs.Shown.{saving_shown}
-use Rattle.tz_tzif.proofs.RangeLemmas.{standard_offset, saving_parts}
+use Rattle.tz_tzif.{specs.Ranges.{footer_miss}, specs.Shown.{saving_shown}, proofs.RangeLemmas.{standard_offset, saving_parts}}
 use Rattle.tz_tzif.proofs.footer.Footer.of.Goals as goal
 
 pub to_utc_offset-offset-requires : goal.to_utc_offset-offset-requires

@@ -1,5 +1,4 @@
-use Rattle.tz_tzif.specs.Shown.{text_shown}
-use Rattle.tz_tzif.proofs.FooterReadLemmas.{refused}
+use Rattle.tz_tzif.{specs.Shown.{text_shown}, proofs.FooterReadLemmas.{refused}}
 use Rattle.tz_tzif.proofs.footer.Footer.parse.Goals as goal
 
 pub returns-in-Err : goal.returns-in-Err

@@ -1,9 +1,5 @@
-use Rattle.std.proofs.Common.{w64, SFits, rules, arith}
-use Rattle.std.proofs.lemmas.Int.{to_z-of_z}
-use Rattle.tz_tzif.specs.Kept.{items_of}
-use Rattle.tz_tzif.specs.Zones.{value_of, says_of}
-use Rattle.tz_tzif.proofs.InstantLemmas.{dates_kept}
-use Rattle.tz_tzif.proofs.ReadLemmas.{utc_second_cast}
+use Rattle.std.proofs.{Common.{w64, SFits, rules, arith}, lemmas.Int.{to_z-of_z}}
+use Rattle.tz_tzif.{specs.Kept.{items_of}, specs.Zones.{value_of, says_of}, proofs.InstantLemmas.{dates_kept}, proofs.ReadLemmas.{utc_second_cast}}
 use Rattle.tz_tzif.proofs.instants.TzifTzAllInstants.begin.Goals as goal
 
 pub invariant_of-result : goal.invariant_of-result

@@ -1,10 +1,6 @@
 -- What is lent says what is kept.
 use Rattle.std.proofs.Common.{option_map, refl, subst, sym}
-use Rattle.tz_tzif.proofs.FooterSaidLemmas.{said}
-use Rattle.tz_tzif.specs.Faults.{SaysInFooter}
-use Rattle.tz_tzif.specs.FooterShown.{footer_shown}
-use Rattle.tz_tzif.specs.OwnShown.{own_shown}
-use Rattle.tz_tzif.specs.OwnZones.{own_value}
+use Rattle.tz_tzif.{proofs.FooterSaidLemmas.{said}, specs.Faults.{SaysInFooter}, specs.FooterShown.{footer_shown}, specs.OwnShown.{own_shown}, specs.OwnZones.{own_value}}
 use Rattle.tz_tzif.proofs.own_zone.OwnZone.lend.Goals as goal
 
 pub returns-clause-zone : goal.returns-clause-zone

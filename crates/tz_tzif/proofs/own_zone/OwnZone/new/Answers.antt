@@ -1,10 +1,8 @@
 -- What is kept of a value is in range.
-use Rattle.tz_tzif.proofs.FooterSaidLemmas.{read}
-use Rattle.tz_tzif.proofs.KindLemmas.{in_range}
+use Rattle.tz_tzif.{proofs.FooterSaidLemmas.{read}, proofs.KindLemmas.{in_range}, specs.OwnShown.{own_shown}}
+use Rattle.tz_tzif.proofs.own_zone.OwnZone.new.Goals as goal
 use Rattle.zone_tzif_core.specs.ZoneFiles.{zone_seen}
 use Rattle.std.specs.Prelude.{option_map}
-use Rattle.tz_tzif.specs.OwnShown.{own_shown}
-use Rattle.tz_tzif.proofs.own_zone.OwnZone.new.Goals as goal
 
 pub invariant_of-result : goal.invariant_of-result
 invariant_of-result c =

@@ -2,15 +2,7 @@
 use Rattle.std.proofs.Common.{◌≡◌, List, option_map, Option, ℤ, refl, subst, sym, ◌∙◌}
 use Rattle.civil_base.specs.Ranges.{IsOffset}
 use Rattle.tz_tzif.proofs.FooterSaidLemmas.{said}
-use Rattle.tz_tzif.specs.Cells.{AreCells}
-use Rattle.tz_tzif.specs.Faults.{SaysInFooter}
-use Rattle.tz_tzif.specs.FooterForce.{FooterZone}
-use Rattle.tz_tzif.specs.FooterShown.{footer_shown}
-use Rattle.tz_tzif.specs.InForce.{told_total_at, total_in}
-use Rattle.tz_tzif.specs.Offsets.{offsets_of}
-use Rattle.tz_tzif.specs.OwnShown.{own_shown}
-use Rattle.tz_tzif.specs.Owners.{value_in}
-use Rattle.tz_tzif.specs.declared.cells.Cell.{Cell}
+use Rattle.tz_tzif.specs.{Cells.{AreCells}, Faults.{SaysInFooter}, FooterForce.{FooterZone}, FooterShown.{footer_shown}, InForce.{told_total_at, total_in}, Offsets.{offsets_of}, OwnShown.{own_shown}, Owners.{value_in}, declared.cells.Cell.{Cell}}
 use Rattle.tz_tzif.proofs.owner.TzifOwner.lend.Goals as goal
 
 pub invariant_of-result : goal.invariant_of-result

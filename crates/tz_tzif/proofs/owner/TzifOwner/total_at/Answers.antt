@@ -1,18 +1,9 @@
 -- What a cell tells is the total by what the footer says.
-use Rattle.std.proofs.Common.{◌≡◌, ℤ, pos, ◌*ℤ◌, List, IfSome, FitsSigned, w32, to_z-of_z, rules, sym, ap, ◌∙◌, subst, arith}
-use Rattle.std.specs.Prelude.{option_map}
-use Rattle.std.specs.Int.{int_div_euclid}
+use Rattle.std.{proofs.Common.{◌≡◌, ℤ, pos, ◌*ℤ◌, List, IfSome, FitsSigned, w32, to_z-of_z, rules, sym, ap, ◌∙◌, subst, arith}, specs.Prelude.{option_map}, specs.Int.{int_div_euclid}}
 use Rattle.basics.specs.SignedLaws.{signed}
-use Rattle.civil_base.specs.Instants.{nanos_of, seconds_of}
-use Rattle.civil_base.specs.Ranges.{IsOffset}
+use Rattle.civil_base.specs.{Instants.{nanos_of, seconds_of}, Ranges.{IsOffset}}
 use Rattle.tz_tzif.proofs.FooterSaidLemmas.{said}
-use Rattle.tz_tzif.specs.Cells.{AreCells}
-use Rattle.tz_tzif.specs.Lasting.{IsTold}
-use Rattle.tz_tzif.specs.InForce.{kind_at, told_total_at, total_in}
-use Rattle.tz_tzif.specs.OwnShown.{own_shown}
-use Rattle.tz_tzif.specs.Owners.{value_in}
-use Rattle.tz_tzif.specs.Zones.{value_of, says_of}
-use Rattle.tz_tzif.specs.declared.cells.Cell.{Cell}
+use Rattle.tz_tzif.specs.{Cells.{AreCells}, Lasting.{IsTold}, InForce.{kind_at, told_total_at, total_in}, OwnShown.{own_shown}, Owners.{value_in}, Zones.{value_of, says_of}, declared.cells.Cell.{Cell}}
 use Rattle.tz_tzif.proofs.owner.TzifOwner.total_at.Goals as goal
 
 divided : (s : ℤ) → int_div_euclid (s *ℤ pos 1000000000) (pos 1000000000) ≡ s

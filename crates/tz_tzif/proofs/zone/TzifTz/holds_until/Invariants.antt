@@ -1,7 +1,6 @@
 use Rattle.std.proofs.Common.{◌≡◌, ℤ, pos, ◌-ℤ◌, ◌≤ℤ◌, ◌<ℤ◌}
 use borrow.Author.Differences.{up}
-use Rattle.tz_tzif.specs.InForce.{kind_in}
-use Rattle.tz_tzif.specs.Zones.{value_of, says_of}
+use Rattle.tz_tzif.specs.{InForce.{kind_in}, Zones.{value_of, says_of}}
 use Rattle.tz_tzif.proofs.zone.TzifTz.holds_until.Given as goal
 
 -- the same holds up to here

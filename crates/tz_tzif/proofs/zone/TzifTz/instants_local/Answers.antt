@@ -1,9 +1,6 @@
-use Rattle.std.proofs.Common.{length, ap, arith}
-use Rattle.std.proofs.lemmas.List.{length-map}
-use Rattle.tz_zone.specs.AllLeft.{all_left}
-use Rattle.tz_zone.specs.InForce.{shown_of}
-use Rattle.tz_tzif.specs.Zones.{value_of, says_of}
-use Rattle.tz_tzif.proofs.InstantLemmas.{few_dates}
+use Rattle.std.proofs.{Common.{length, ap, arith}, lemmas.List.{length-map}}
+use Rattle.tz_zone.specs.{AllLeft.{all_left}, InForce.{shown_of}}
+use Rattle.tz_tzif.{specs.Zones.{value_of, says_of}, proofs.InstantLemmas.{few_dates}}
 use Rattle.tz_tzif.proofs.zone.TzifTz.instants_local.Goals as goal
 
 pub returns-clause-few : goal.returns-clause-few

@@ -1,7 +1,6 @@
 use Rattle.std.proofs.Common.{◌≡◌, true, rules, arith}
 use Rattle.zone_tzif_core.specs.ZoneFiles.{zone_seen}
-use Rattle.tz_tzif.specs.Faults.{are_small}
-use Rattle.tz_tzif.proofs.KindLemmas.{in_range}
+use Rattle.tz_tzif.{specs.Faults.{are_small}, proofs.KindLemmas.{in_range}}
 use Rattle.tz_tzif.proofs.zone.TzifTz.new.Goals as goal
 
 pub invariant_of-result : goal.invariant_of-result

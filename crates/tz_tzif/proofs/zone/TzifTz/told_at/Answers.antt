@@ -1,6 +1,5 @@
 use Rattle.std.proofs.Common.{to_z-of_z}
-use Rattle.tz_tzif.specs.InForce.{total_in}
-use Rattle.tz_tzif.specs.Zones.{value_of, says_of}
+use Rattle.tz_tzif.specs.{InForce.{total_in}, Zones.{value_of, says_of}}
 use Rattle.tz_tzif.proofs.zone.TzifTz.told_at.Goals as goal
 
 pub returns : goal.returns

@@ -1,11 +1,8 @@
-use Rattle.std.proofs.Common.{◌≡◌, ◌∙◌, w64, SFits, rules, ap}
-use Rattle.std.proofs.lemmas.Int.{to_z-of_z}
+use Rattle.std.proofs.{Common.{◌≡◌, ◌∙◌, w64, SFits, rules, ap}, lemmas.Int.{to_z-of_z}}
 use Rattle.civil_base.specs.DateTimes.{instant}
-use Rattle.tz_tzif.specs.FooterShown.{held_shown}
-use Rattle.zone_tzif_core.specs.Zones.{KindValue}
-use Rattle.tz_tzif.specs.InForce.{kind_in, kind_at}
-use Rattle.tz_tzif.specs.Zones.{value_of, says_of}
+use Rattle.tz_tzif.specs.{FooterShown.{held_shown}, InForce.{kind_in, kind_at}, Zones.{value_of, says_of}}
 use Rattle.tz_tzif.proofs.zone.TzifTzTimeZone.get_offset_utc.Goals as goal
+use Rattle.zone_tzif_core.specs.Zones.{KindValue}
 
 kind_is : (c : goal.After-held_at) → held_shown c.held_at.result ≡ kind_at (value_of c.args.self.now) (says_of c.args.self.now) (instant c.args.date_time.now)
 unfolding kind_at

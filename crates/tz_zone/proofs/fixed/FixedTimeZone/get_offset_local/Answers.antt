@@ -1,7 +1,6 @@
 use Rattle.std.proofs.Common.{ℤ, [], ◌∷◌, ap, ◌∙◌}
 use Rattle.civil_base.specs.DateTimes.{local_of}
-use Rattle.tz_zone.specs.AnswerLaws.{instants_of_offsets}
-use Rattle.tz_zone.proofs.TimeZoneLemmas.{fixed_totals}
+use Rattle.tz_zone.{specs.AnswerLaws.{instants_of_offsets}, proofs.TimeZoneLemmas.{fixed_totals}}
 use Rattle.tz_zone.proofs.fixed.FixedTimeZone.get_offset_local.Goals as goal
 
 pub returns-clause-totals : goal.returns-clause-totals

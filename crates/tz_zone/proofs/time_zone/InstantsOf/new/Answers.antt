@@ -1,8 +1,5 @@
-use Rattle.std.proofs.Common.{length, ap, arith}
-use Rattle.std.proofs.lemmas.List.{length-map}
-use Rattle.tz_zone.specs.InForce.{shown_of}
-use Rattle.tz_zone.specs.AnswerLaws.{instants_of_dates}
-use Rattle.tz_zone.specs.InstantLaws.{few_instants}
+use Rattle.std.proofs.{Common.{length, ap, arith}, lemmas.List.{length-map}}
+use Rattle.tz_zone.specs.{InForce.{shown_of}, AnswerLaws.{instants_of_dates}, InstantLaws.{few_instants}}
 use Rattle.tz_zone.proofs.time_zone.InstantsOf.new.Goals as goal
 
 pub invariant_of-result : goal.invariant_of-result

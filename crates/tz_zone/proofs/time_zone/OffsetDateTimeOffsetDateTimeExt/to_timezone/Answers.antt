@@ -1,6 +1,5 @@
 use Rattle.std.proofs.Common.{◌≡◌, ℤ, Option, Some, None, IfSome, ◌∙◌}
-use Rattle.civil_base.specs.DateTimes.{instant, offset_of}
-use Rattle.civil_base.specs.declared.offset_date_time.OffsetDateTime.{OffsetDateTime}
+use Rattle.civil_base.specs.{DateTimes.{instant, offset_of}, declared.offset_date_time.OffsetDateTime.{OffsetDateTime}}
 use Rattle.tz_zone.specs.InForce.{shown_of}
 use Rattle.tz_zone.proofs.time_zone.OffsetDateTimeOffsetDateTimeExt.to_timezone.Goals as goal
 

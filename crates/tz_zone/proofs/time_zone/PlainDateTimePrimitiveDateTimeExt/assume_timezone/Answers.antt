@@ -1,8 +1,5 @@
-use Rattle.std.proofs.Common.{ap, ◌∙◌, rules}
-use Rattle.std.specs.Prelude.{take}
-use Rattle.tz_zone.specs.InForce.{totals_at}
-use Rattle.tz_zone.specs.AnswerLaws.{instants_of_two}
-use Rattle.tz_zone.proofs.TimeZoneLemmas.{shown_assumed, shown_mapped}
+use Rattle.std.{proofs.Common.{ap, ◌∙◌, rules}, specs.Prelude.{take}}
+use Rattle.tz_zone.{specs.InForce.{totals_at}, specs.AnswerLaws.{instants_of_two}, proofs.TimeZoneLemmas.{shown_assumed, shown_mapped}}
 use Rattle.tz_zone.proofs.time_zone.PlainDateTimePrimitiveDateTimeExt.assume_timezone.Goals as goal
 
 pub returns-clause-shown : goal.returns-clause-shown

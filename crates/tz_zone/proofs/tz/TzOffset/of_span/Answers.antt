@@ -1,7 +1,6 @@
 use Rattle.std.proofs.Common.{sym, subst}
 use Rattle.civil_base.specs.Instants.{instant_at}
-use Rattle.tz_zone.specs.InForce.{IsInForce}
-use Rattle.tz_zone.specs.InForceLaws.{gives_at}
+use Rattle.tz_zone.specs.{InForce.{IsInForce}, InForceLaws.{gives_at}}
 use Rattle.tz_zone.proofs.tz.TzOffset.of_span.Goals as goal
 
 pub returns-clause-given : goal.returns-clause-given

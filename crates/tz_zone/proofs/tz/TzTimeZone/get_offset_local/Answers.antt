@@ -1,6 +1,5 @@
 use Rattle.std.proofs.Common.{◌∙◌}
-use Rattle.tz_zone.specs.AnswerLaws.{instants_of_offsets}
-use Rattle.tz_zone.proofs.OrderLemmas.{all_near}
+use Rattle.tz_zone.{specs.AnswerLaws.{instants_of_offsets}, proofs.OrderLemmas.{all_near}}
 use Rattle.tz_zone.proofs.tz.TzTimeZone.get_offset_local.Goals as goal
 
 pub local_spans-requires-clause-near : goal.local_spans-requires-clause-near

@@ -1,8 +1,6 @@
 use Rattle.std.proofs.Common.{None, Some, cond, map, ap, sym, ◌∙◌, codes}
 use Rattle.zone_source.specs.LineLists.{ended}
-use Rattle.zone_alarm.specs.RingLines.{ring_line}
-use Rattle.zone_alarm.specs.Rings.{ends_in_years, rings}
-use Rattle.zone_alarm.specs.Shown.{ring_shown}
+use Rattle.zone_alarm.specs.{RingLines.{ring_line}, Rings.{ends_in_years, rings}, Shown.{ring_shown}}
 use Rattle.zone_alarm.proofs.program.Daily.lines_in.Goals as goal
 
 pub returns-in_ok-lines_of-in-Ok : goal.returns-in_ok-lines_of-in-Ok

@@ -1,6 +1,5 @@
 use Rattle.std.proofs.Common.{◌≡◌, ℕ, ℤ, Option, Some, None, option_map, refl, ap, ◌∙◌}
-use Rattle.zone_alarm.specs.Asks.{asks}
-use Rattle.zone_alarm.specs.declared.program.Daily.{Daily}
+use Rattle.zone_alarm.specs.{Asks.{asks}, declared.program.Daily.{Daily}}
 use Rattle.zone_alarm.proofs.program.DailyZoneProgram.read.Goals as goal
 
 asked_is : (read : Option Daily) → option_map (λ (daily : Daily). asks daily.start daily.days) read

@@ -1,7 +1,5 @@
-use Rattle.std.proofs.Common.{subst, sym}
-use Rattle.std.proofs.lemmas.Result.{err_from_is_err_and}
-use Rattle.zone_answers.proofs.ZoneLemmas.{each_kept, placed_same, same_found}
-use Rattle.zone_answers.specs.Opened.{IsPlaced}
+use Rattle.std.proofs.{Common.{subst, sym}, lemmas.Result.{err_from_is_err_and}}
+use Rattle.zone_answers.{proofs.ZoneLemmas.{each_kept, placed_same, same_found}, specs.Opened.{IsPlaced}}
 use Rattle.zone_answers.proofs.opened.Zones.open.Goals as goal
 
 pub returns-in_err-place-clause-err : goal.returns-in_err-place-clause-err

@@ -1,13 +1,9 @@
-use Rattle.std.proofs.Common.{Ok, ap, sym, ◌∙◌}
-use Rattle.std.specs.FinMap.{get}
-use Rattle.tz_zone.specs.Compiles.{compiled_in}
-use Rattle.tz_zone.specs.Sets.{schedule_of}
-use Rattle.tz_zone.specs.declared.set.FixedTimespanSet.{FixedTimespanSet}
+use Rattle.std.{proofs.Common.{Ok, ap, sym, ◌∙◌}, specs.FinMap.{get}}
+use Rattle.tz_zone.specs.{Compiles.{compiled_in}, Sets.{schedule_of}, declared.set.FixedTimespanSet.{FixedTimespanSet}}
 use Rattle.zone_run.specs.FoundLaws.{compiled_found, compiled_refused}
 use Rattle.zone_spans.specs.Schedules.{total_at, totals_of}
 use Rattle.zone_table.specs.Resolved.{resolved_in}
-use Rattle.zone_answers.specs.Found.{found_in_table, to_2099}
-use Rattle.zone_answers.specs.FoundLaws.{fault_told_so}
+use Rattle.zone_answers.specs.{Found.{found_in_table, to_2099}, FoundLaws.{fault_told_so}}
 use Rattle.zone_answers.proofs.to_2099.CompactSetOpenedZone.open.Goals as goal
 
 pub returns-in_ok-compact-in-Ok-clause-ok : goal.returns-in_ok-compact-in-Ok-clause-ok

@@ -1,8 +1,6 @@
 use Rattle.std.proofs.Common.{ap, sym, ◌∙◌, arith}
 use Rattle.basics.specs.SignedLaws.{signed}
-use Rattle.tz_ever.specs.EverShown.{ever_seen}
-use Rattle.tz_ever.specs.Ever.{ever_total}
-use Rattle.tz_ever.specs.Unrolled.{unrolled}
+use Rattle.tz_ever.specs.{EverShown.{ever_seen}, Ever.{ever_total}, Unrolled.{unrolled}}
 use Rattle.tz_lookup.specs.InForce.{all_in_force}
 use Rattle.zone_ever.proofs.AlarmLemmas.{answers_alike}
 use Rattle.zone_ever.proofs.alarm.EverDailyZoneProgram.answer.Goals as goal

@@ -1,13 +1,10 @@
-use Rattle.std.proofs.Common.{◌≡◌, ◌≤ℤ◌, sym, subst, to_z, of_z, w64, SFits, rules}
-use Rattle.std.proofs.lemmas.Int.{to_z-of_z}
+use Rattle.std.proofs.{Common.{◌≡◌, ◌≤ℤ◌, sym, subst, to_z, of_z, w64, SFits, rules}, lemmas.Int.{to_z-of_z}}
 use Rattle.basics.specs.ComparisonLaws.{le_pass, lt_from_fail}
 use Rattle.tz_zone.specs.Sets.{IsAccepted, schedule_of}
-use Rattle.tz_ever.specs.EverShown.{ever_seen}
-use Rattle.tz_ever.specs.Unrolled.{unrolled}
+use Rattle.tz_ever.specs.{EverShown.{ever_seen}, Unrolled.{unrolled}}
 use Rattle.zone_list.specs.Asks.{asks}
 use Rattle.zone_run.specs.Asked.{Answers}
-use Rattle.zone_ever.specs.Lists.{last_second}
-use Rattle.zone_ever.proofs.ListLemmas.{answers_within}
+use Rattle.zone_ever.{specs.Lists.{last_second}, proofs.ListLemmas.{answers_within}}
 use Rattle.zone_ever.proofs.list.EverWindowZoneProgram.answer.Goals as goal
 
 pub rows_of-requires : goal.rows_of-requires

@@ -1,10 +1,7 @@
 use Rattle.std.proofs.Common.{sym, subst}
 use Rattle.tz_ever.specs.EverShown.{ever_seen}
-use Rattle.zone_run.specs.Readings.{found_in_table}
-use Rattle.zone_run.specs.Responses.{TellsCause}
-use Rattle.zone_run.specs.declared.found.FindFault.{FindFault}
-use Rattle.zone_ever.specs.Readings.{spans_for_ever, with_cycles}
-use Rattle.zone_ever.proofs.EverLemmas.{given_refused, spans_are}
+use Rattle.zone_run.specs.{Readings.{found_in_table}, Responses.{TellsCause}, declared.found.FindFault.{FindFault}}
+use Rattle.zone_ever.{specs.Readings.{spans_for_ever, with_cycles}, proofs.EverLemmas.{given_refused, spans_are}}
 use Rattle.zone_ever.proofs.zone.EverZoneFoundZone.find.Goals as goal
 
 pub returns-in-Ok-clause-spans : goal.returns-in-Ok-clause-spans

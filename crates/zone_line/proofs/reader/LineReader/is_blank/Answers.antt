@@ -1,6 +1,5 @@
 use Rattle.std.proofs.Common.{◌∙◌}
-use Rattle.zone_line.specs.Kinds.{is_blank}
-use Rattle.zone_line.proofs.PatternLemmas.{matches}
+use Rattle.zone_line.{specs.Kinds.{is_blank}, proofs.PatternLemmas.{matches}}
 use Rattle.zone_line.proofs.reader.LineReader.is_blank.Goals as goal
 
 pub returns : goal.returns

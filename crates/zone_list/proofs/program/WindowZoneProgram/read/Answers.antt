@@ -1,6 +1,5 @@
 use Rattle.std.proofs.Common.{◌≡◌, ℤ, Option, Some, None, option_map, refl, ap, ◌∙◌}
-use Rattle.zone_list.specs.Asks.{asks}
-use Rattle.zone_list.specs.declared.window.Window.{Window}
+use Rattle.zone_list.specs.{Asks.{asks}, declared.window.Window.{Window}}
 use Rattle.zone_list.proofs.program.WindowZoneProgram.read.Goals as goal
 
 asked_is : (read : Option Window) → option_map (λ (window : Window). asks window.from window.to) read

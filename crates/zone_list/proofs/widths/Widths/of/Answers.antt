@@ -1,10 +1,6 @@
-use Rattle.zone_list.specs.Rows.{name_of, time_of, widest}
-use Rattle.zone_list.specs.Windows.{window}
-use Rattle.zone_list.proofs.StepLemmas.{left, most_of_none, widened, as_wide}
+use Rattle.zone_list.{specs.Rows.{name_of, time_of, widest}, specs.Windows.{window}, proofs.StepLemmas.{left, most_of_none, widened, as_wide}, proofs.widths.Widths.of.Goals.{then-is_within, else-is_within}}
 use Rattle.zone_list.proofs.widths.Widths.of.Goals as goal
-use Rattle.zone_list.proofs.widths.Widths.of.Goals.{then-is_within, else-is_within}
-use Rattle.std.proofs.Common.{◌∙◌, ◌+◌, ◌<◌, ap, arith, length, map, sym}
-use Rattle.std.specs.Prelude.{max}
+use Rattle.std.{proofs.Common.{◌∙◌, ◌+◌, ◌<◌, ap, arith, length, map, sym}, specs.Prelude.{max}}
 
 pub loop-place-init : goal.loop-place-init
 unfolding window

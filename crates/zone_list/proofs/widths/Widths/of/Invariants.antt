@@ -1,9 +1,6 @@
-use Rattle.std.proofs.Common.{◌≡◌, ℕ, map, ℤ}
-use Rattle.std.specs.Prelude.{max}
+use Rattle.std.{proofs.Common.{◌≡◌, ℕ, map, ℤ}, specs.Prelude.{max}}
 use Rattle.tz_zone.specs.declared.set.FixedTimespanSet.{FixedTimespanSet}
-use Rattle.zone_list.specs.Rows.{name_of, time_of, widest}
-use Rattle.zone_list.specs.Windows.{window}
-use Rattle.zone_list.proofs.StepLemmas.{left}
+use Rattle.zone_list.{specs.Rows.{name_of, time_of, widest}, specs.Windows.{window}, proofs.StepLemmas.{left}}
 use Rattle.zone_list.proofs.widths.Widths.of.Given as goal
 
 -- the widest so far and that of what is left are the widest of all

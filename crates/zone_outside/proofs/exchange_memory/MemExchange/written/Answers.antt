@@ -1,7 +1,5 @@
 use Rattle.std.proofs.Common.{sym, ap, ◌∙◌}
-use Rattle.zone_outside.specs.Exchanges.{sent}
-use Rattle.zone_outside.specs.Marks.{ExchangeState}
-use Rattle.zone_outside.proofs.MarkLemmas.{sent_all}
+use Rattle.zone_outside.{specs.Exchanges.{sent}, specs.Marks.{ExchangeState}, proofs.MarkLemmas.{sent_all}}
 use Rattle.zone_outside.proofs.exchange_memory.MemExchange.written.Goals as goal
 
 pub returns : goal.returns

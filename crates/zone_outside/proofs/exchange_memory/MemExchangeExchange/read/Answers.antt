@@ -1,9 +1,5 @@
-use Rattle.std.proofs.Common.{◌≡◌, refl, ap, ◌∙◌, arith, ◌+◌, ◌≤◌, [], ◌∷◌, ◌++◌, length, drop, false, Some, length-append, length-drop}
-use Rattle.std.proofs.lemmas.Grind.{common_steps}
-use Rattle.zone_outside.proofs.Loops.{consumed_at}
-use Rattle.zone_outside.proofs.MarkLemmas.{read_sizes, told_read}
-use Rattle.zone_outside.specs.Marks.{size_read, size_written}
-use Rattle.zone_outside.specs.Outside.{Consumes}
+use Rattle.std.proofs.{Common.{◌≡◌, refl, ap, ◌∙◌, arith, ◌+◌, ◌≤◌, [], ◌∷◌, ◌++◌, length, drop, false, Some, length-append, length-drop}, lemmas.Grind.{common_steps}}
+use Rattle.zone_outside.{proofs.Loops.{consumed_at}, proofs.MarkLemmas.{read_sizes, told_read}, specs.Marks.{size_read, size_written}, specs.Outside.{Consumes}}
 use Rattle.zone_outside.proofs.exchange_memory.MemExchangeExchange.read.Goals as goal
 
 pub invariant_of-self-2 : goal.invariant_of-self-2

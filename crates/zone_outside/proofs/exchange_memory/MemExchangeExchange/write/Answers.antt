@@ -1,8 +1,5 @@
-use Rattle.std.proofs.Common.{◌≡◌, refl, sym, ap, ◌∙◌, arith, [], ◌∷◌, ◌++◌, length, take, true, length-append}
-use Rattle.std.proofs.lemmas.Grind.{common_steps}
-use Rattle.std.proofs.lemmas.List.{length-take-le}
-use Rattle.zone_outside.proofs.MarkLemmas.{written_sizes, told_write}
-use Rattle.zone_outside.specs.Marks.{size_read, size_written}
+use Rattle.std.proofs.{Common.{◌≡◌, refl, sym, ap, ◌∙◌, arith, [], ◌∷◌, ◌++◌, length, take, true, length-append}, lemmas.Grind.{common_steps}, lemmas.List.{length-take-le}}
+use Rattle.zone_outside.{proofs.MarkLemmas.{written_sizes, told_write}, specs.Marks.{size_read, size_written}}
 use Rattle.zone_outside.proofs.exchange_memory.MemExchangeExchange.write.Goals as goal
 
 pub invariant_of-self-2 : goal.invariant_of-self-2

@@ -1,5 +1,4 @@
-use Rattle.zone_outside.proofs.Loops.{consumed_at}
-use Rattle.zone_outside.specs.Memory.{text_chosen}
+use Rattle.zone_outside.{proofs.Loops.{consumed_at}, specs.Memory.{text_chosen}}
 use Rattle.zone_outside.proofs.memory.MemShelfSource.read.Goals as goal
 
 pub returns-clause-bytes : goal.returns-clause-bytes

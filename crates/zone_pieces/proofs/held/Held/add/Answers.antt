@@ -1,5 +1,4 @@
-use Rattle.std.proofs.Common.{◌≡◌, ◌∙◌, ◌++◌, take, arith, length, ◌≤◌, min, ◌-◌, ap}
-use Rattle.std.proofs.lemmas.Grind.{common_steps}
+use Rattle.std.proofs.{Common.{◌≡◌, ◌∙◌, ◌++◌, take, arith, length, ◌≤◌, min, ◌-◌, ap}, lemmas.Grind.{common_steps}}
 use Rattle.zone_pieces.proofs.LineLemmas.{held_front}
 use Rattle.zone_pieces.proofs.held.Held.add.Goals as goal
 

@@ -1,8 +1,5 @@
-use Rattle.std.proofs.Common.{map, ap, ◌∙◌, not}
-use Rattle.std.specs.List.{list_any}
-use Rattle.zone_plain.specs.Pairs.{is_same, with_pair, number_of}
-use Rattle.zone_plain.specs.Shown.{pair_shown}
-use Rattle.zone_plain.proofs.PairLemmas.{shown_insert, place_shown, any_shown}
+use Rattle.std.{proofs.Common.{map, ap, ◌∙◌, not}, specs.List.{list_any}}
+use Rattle.zone_plain.{specs.Pairs.{is_same, with_pair, number_of}, specs.Shown.{pair_shown}, proofs.PairLemmas.{shown_insert, place_shown, any_shown}}
 use Rattle.zone_plain.proofs.asked.Pairs.number.Goals as goal
 
 pub returns-clause-pairs : goal.returns-clause-pairs

@@ -1,6 +1,5 @@
 use Rattle.std.proofs.Common.{◌≡◌, Ok, true, subst, sym}
-use Rattle.zone_serving.specs.Kept.{is_kept}
-use Rattle.zone_serving.proofs.KeptLemmas.{now_kept, put_in, still_kept}
+use Rattle.zone_serving.{specs.Kept.{is_kept}, proofs.KeptLemmas.{now_kept, put_in, still_kept}}
 use Rattle.zone_serving.proofs.kept.KeptZones.keep.Goals as goal
 
 pub invariant_of-self : goal.invariant_of-self

@@ -1,10 +1,7 @@
-use Rattle.std.proofs.Common.{subst}
-use Rattle.std.specs.Prelude.{codes}
+use Rattle.std.{proofs.Common.{subst}, specs.Prelude.{codes}}
 use Rattle.sefunjaro.specs.Sources.{table_in}
 use Rattle.zone_command.specs.Answers.{Answer}
-use Rattle.zone_serving.specs.Plain.{plain_answer}
-use Rattle.zone_serving.specs.Told.{IsPut}
-use Rattle.zone_serving.proofs.RequestLemmas.{no_plain_text, plain_text, refused_told}
+use Rattle.zone_serving.{specs.Plain.{plain_answer}, specs.Told.{IsPut}, proofs.RequestLemmas.{no_plain_text, plain_text, refused_told}}
 use Rattle.zone_serving.proofs.plain.PlainStream.answer_line.Goals as goal
 
 pub returns-in-Ok-clause-answer : goal.returns-in-Ok-clause-answer

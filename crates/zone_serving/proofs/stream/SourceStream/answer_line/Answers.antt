@@ -1,9 +1,6 @@
-use Rattle.std.proofs.Common.{ap, subst}
-use Rattle.std.specs.Prelude.{codes}
+use Rattle.std.{proofs.Common.{ap, subst}, specs.Prelude.{codes}}
 use Rattle.zone_command.specs.Answers.{IsAnswer}
-use Rattle.zone_serving.specs.Requests.{Request}
-use Rattle.zone_serving.specs.Streams.{answer_for, answer_to}
-use Rattle.zone_serving.proofs.RequestLemmas.{no_text, of_text, refused_is}
+use Rattle.zone_serving.{specs.Requests.{Request}, specs.Streams.{answer_for, answer_to}, proofs.RequestLemmas.{no_text, of_text, refused_is}}
 use Rattle.zone_serving.proofs.stream.SourceStream.answer_line.Goals as goal
 
 pub returns-in-Ok-clause-answer : goal.returns-in-Ok-clause-answer

@@ -1,5 +1,4 @@
-use Rattle.std.proofs.Common.{sym, arith, ap, ◌≤◌, ◌<◌, length}
-use Rattle.std.proofs.lemmas.Option.{slice_get_past}
+use Rattle.std.proofs.{Common.{sym, arith, ap, ◌≤◌, ◌<◌, length}, lemmas.Option.{slice_get_past}}
 use Rattle.zone_source.proofs.LineListLemmas.{line_at, lies_within, length_lines}
 use Rattle.zone_source.proofs.lines.LineList.get.Goals as goal
 

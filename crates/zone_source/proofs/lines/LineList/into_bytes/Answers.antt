@@ -1,6 +1,5 @@
 use Rattle.std.proofs.Common.{ap, ◌∙◌, sym}
-use Rattle.zone_source.specs.LineLists.{ended}
-use Rattle.zone_source.proofs.LineListLemmas.{ended_lines}
+use Rattle.zone_source.{specs.LineLists.{ended}, proofs.LineListLemmas.{ended_lines}}
 use Rattle.zone_source.proofs.lines.LineList.into_bytes.Goals as goal
 
 pub returns : goal.returns

@@ -1,8 +1,5 @@
-use Rattle.std.proofs.Common.{sym, ap, ◌∙◌}
-use Rattle.std.proofs.lemmas.List.{nil_from_length}
-use Rattle.std.proofs.lemmas.Bool.{eqb-true}
-use Rattle.zone_source.specs.Lines.{lines_of}
-use Rattle.zone_source.proofs.LineLemmas.{no_lines}
+use Rattle.std.proofs.{Common.{sym, ap, ◌∙◌}, lemmas.List.{nil_from_length}, lemmas.Bool.{eqb-true}}
+use Rattle.zone_source.{specs.Lines.{lines_of}, proofs.LineLemmas.{no_lines}}
 use Rattle.zone_source.proofs.lines.LinesIterator.next.Goals as goal
 
 pub returns-then-is_empty-clause-steps : goal.returns-then-is_empty-clause-steps

@@ -1,6 +1,5 @@
 use Rattle.std.proofs.Common.{sym, ap, ◌∙◌}
-use Rattle.zone_spans.specs.Lines.{Line}
-use Rattle.zone_spans.proofs.RuleLemmas.{rules_are}
+use Rattle.zone_spans.{specs.Lines.{Line}, proofs.RuleLemmas.{rules_are}}
 use Rattle.zone_spans.proofs.fault.TestedServe.serves.Goals as goal
 
 pub returns : goal.returns

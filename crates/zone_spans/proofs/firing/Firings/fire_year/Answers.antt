@@ -1,20 +1,9 @@
-use Rattle.std.proofs.Common.{◌≡◌, ◌-◌, ◌+◌, ◌∷◌, [], ◌⊎◌, inl, inr, Option, None, length, refl, sym, ap, ◌∙◌, subst, arith, rules, to_z, of_z, w64, SFits, ℤ, IsTrue}
-use Rattle.std.proofs.lemmas.Int.{to_z-of_z}
-use Rattle.std.proofs.lemmas.List.Folds.{list_all-append}
+use Rattle.std.proofs.{Common.{◌≡◌, ◌-◌, ◌+◌, ◌∷◌, [], ◌⊎◌, inl, inr, Option, None, length, refl, sym, ap, ◌∙◌, subst, arith, rules, to_z, of_z, w64, SFits, ℤ, IsTrue}, lemmas.Int.{to_z-of_z}, lemmas.List.Folds.{list_all-append}}
 use Rattle.std.specs.List.{list_all}
-use Rattle.zone_values.specs.Bounds.{are_small_seconds}
-use Rattle.zone_values.specs.declared.change.ChangeTime.{ChangeTime}
-use Rattle.zone_spans.specs.Bounds.{is_bounded_firing, is_small}
-use Rattle.zone_spans.specs.Fires.{Fires, after}
-use Rattle.zone_spans.specs.Firings.{Firing, year_firings}
-use Rattle.zone_spans.specs.Fronts.{fronts_of, next_firing}
-use Rattle.zone_spans.specs.Lines.{Line}
-use Rattle.zone_spans.specs.Placed.{placed_from}
-use Rattle.zone_spans.specs.declared.front.YearRules.{YearRules}
-use Rattle.zone_spans.proofs.BoundLemmas.{both, second}
-use Rattle.zone_spans.proofs.FrontLemmas.{owes_begun, owes_next, owes_none}
+use Rattle.zone_values.specs.{Bounds.{are_small_seconds}, declared.change.ChangeTime.{ChangeTime}}
+use Rattle.zone_spans.specs.{Bounds.{is_bounded_firing, is_small}, Fires.{Fires, after}, Firings.{Firing, year_firings}, Fronts.{fronts_of, next_firing}, Lines.{Line}, Placed.{placed_from}, declared.front.YearRules.{YearRules}}
+use Rattle.zone_spans.proofs.{BoundLemmas.{both, second}, FrontLemmas.{owes_begun, owes_next, owes_none}, firing.Firings.fire_year.Goals.{else-loop-i-test, then-loop-i-test+in_default}}
 use Rattle.zone_spans.proofs.firing.Firings.fire_year.Goals as goal
-use Rattle.zone_spans.proofs.firing.Firings.fire_year.Goals.{else-loop-i-test, then-loop-i-test+in_default}
 
 pub loop-i-init : goal.loop-i-init
 loop-i-init c =

@@ -1,7 +1,5 @@
 use Rattle.std.proofs.Common.{length, ◌-◌}
-use Rattle.zone_spans.specs.Fires.{AreSmall, after}
-use Rattle.zone_spans.specs.Firings.{year_firings}
-use Rattle.zone_spans.proofs.FrontLemmas.{Owes}
+use Rattle.zone_spans.{specs.Fires.{AreSmall, after}, specs.Firings.{year_firings}, proofs.FrontLemmas.{Owes}}
 use Rattle.zone_spans.proofs.firing.Firings.fire_year.Given as goal
 
 abbrev pub invariant-loop-i : goal.invariant-loop-i

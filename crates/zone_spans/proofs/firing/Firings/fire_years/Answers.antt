@@ -1,12 +1,6 @@
-use Rattle.std.proofs.Common.{◌++◌, Option, sym, ap, ◌∙◌, subst, rules, to_z, of_z, w64, SFits, IsTrue}
-use Rattle.std.specs.List.{list_all}
-use Rattle.std.proofs.lemmas.Int.{to_z-of_z}
+use Rattle.std.{proofs.Common.{◌++◌, Option, sym, ap, ◌∙◌, subst, rules, to_z, of_z, w64, SFits, IsTrue}, specs.List.{list_all}, proofs.lemmas.Int.{to_z-of_z}}
 use Rattle.zone_values.specs.declared.change.ChangeTime.{ChangeTime}
-use Rattle.zone_spans.specs.Bounds.{can_fire, is_end}
-use Rattle.zone_spans.specs.Firings.{Fired, year_firings}
-use Rattle.zone_spans.specs.Lines.{Line}
-use Rattle.zone_spans.proofs.SoundLemmas.{bounded_offset, sound_end, sound_rules}
-use Rattle.zone_spans.proofs.YearLemmas.{next_year, stands_year}
+use Rattle.zone_spans.{specs.Bounds.{can_fire, is_end}, specs.Firings.{Fired, year_firings}, specs.Lines.{Line}, proofs.SoundLemmas.{bounded_offset, sound_end, sound_rules}, proofs.YearLemmas.{next_year, stands_year}}
 use Rattle.zone_spans.proofs.firing.Firings.fire_years.Goals as goal
 
 pub fire_year-requires-clause-rules : goal.fire_year-requires-clause-rules

@@ -1,7 +1,5 @@
 use Rattle.std.proofs.Common.{◌≡◌, Option, ℤ}
-use Rattle.zone_spans.specs.Fires.{AreSmall}
-use Rattle.zone_spans.specs.Firings.{firings_of_years}
-use Rattle.zone_spans.specs.Stands.{StandsFor}
+use Rattle.zone_spans.specs.{Fires.{AreSmall}, Firings.{firings_of_years}, Stands.{StandsFor}}
 use Rattle.zone_spans.proofs.firing.Firings.fire_years.Given as goal
 
 abbrev pub invariant-loop-i : goal.invariant-loop-i

@@ -1,13 +1,8 @@
-use Rattle.std.proofs.Common.{◌≡◌, ℕ, ◌<◌, List, All, cond, take, IsTrue, length, get_or, sym, ap, ◌∙◌, subst, to_z, of_z, w64, ℤ, SFits}
-use Rattle.std.proofs.lemmas.Int.{to_z-of_z}
+use Rattle.std.proofs.{Common.{◌≡◌, ℕ, ◌<◌, List, All, cond, take, IsTrue, length, get_or, sym, ap, ◌∙◌, subst, to_z, of_z, w64, ℤ, SFits}, lemmas.Int.{to_z-of_z}}
 use Rattle.zone_table.specs.declared.rule.RuleInfo.{RuleInfo}
-use Rattle.zone_spans.specs.Bounds.{can_fire}
-use Rattle.zone_spans.specs.Fronts.{by_mark, with_placed}
-use Rattle.zone_spans.specs.Placed.{placed_at, placed_from}
-use Rattle.zone_spans.proofs.PlacedLemmas.{applying_more}
-use Rattle.zone_spans.proofs.SoundLemmas.{fires_in, has_years_of}
+use Rattle.zone_spans.specs.{Bounds.{can_fire}, Fronts.{by_mark, with_placed}, Placed.{placed_at, placed_from}}
+use Rattle.zone_spans.proofs.{PlacedLemmas.{applying_more}, SoundLemmas.{fires_in, has_years_of}, front.YearRules.add_applying.Goals.{then-applies_to_year+in_ok-add, else-applies_to_year}}
 use Rattle.zone_spans.proofs.front.YearRules.add_applying.Goals as goal
-use Rattle.zone_spans.proofs.front.YearRules.add_applying.Goals.{then-applies_to_year+in_ok-add, else-applies_to_year}
 
 can : (year : ℤ) (rules : List RuleInfo) (i : ℕ) (r : RuleInfo) → SFits w64 year → All (λ r. IsTrue (can_fire year r)) rules → i < length rules
     → r ≡ get_or rules i r → IsTrue (can_fire (to_z w64 (of_z w64 year)) r)

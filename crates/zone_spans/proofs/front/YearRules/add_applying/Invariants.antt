@@ -1,6 +1,5 @@
 use Rattle.std.proofs.Common.{◌≡◌, take}
-use Rattle.zone_spans.specs.Fronts.{by_mark}
-use Rattle.zone_spans.specs.Placed.{placed_from}
+use Rattle.zone_spans.specs.{Fronts.{by_mark}, Placed.{placed_from}}
 use Rattle.zone_spans.proofs.front.YearRules.add_applying.Given as goal
 
 abbrev pub invariant-loop-place : goal.invariant-loop-place

@@ -1,7 +1,5 @@
 use Rattle.std.proofs.Common.{List, subst, sym, pos, [], arith}
-use Rattle.zone_spans.specs.Kept.{AreSummaries}
-use Rattle.zone_spans.specs.declared.kept.Summary.{Summary}
-use Rattle.zone_spans.proofs.KeptLemmas.{begun_quiet}
+use Rattle.zone_spans.{specs.Kept.{AreSummaries}, specs.declared.kept.Summary.{Summary}, proofs.KeptLemmas.{begun_quiet}}
 use Rattle.zone_spans.proofs.kept.Kept.new.Goals as goal
 
 pub returns : goal.returns

@@ -1,8 +1,5 @@
-use Rattle.std.proofs.Common.{List, subst, sym, arith, rules, w64, SFits}
-use Rattle.std.proofs.lemmas.Int.{to_z-of_z}
-use Rattle.zone_spans.specs.Kept.{AreSummaries}
-use Rattle.zone_spans.specs.declared.kept.Summary.{Summary}
-use Rattle.zone_spans.proofs.KeptLemmas.{begun_quiet}
+use Rattle.std.proofs.{Common.{List, subst, sym, arith, rules, w64, SFits}, lemmas.Int.{to_z-of_z}}
+use Rattle.zone_spans.{specs.Kept.{AreSummaries}, specs.declared.kept.Summary.{Summary}, proofs.KeptLemmas.{begun_quiet}}
 use Rattle.zone_spans.proofs.kept.KeptServe.begin.Goals as goal
 
 pub returns-clause-holds : goal.returns-clause-holds

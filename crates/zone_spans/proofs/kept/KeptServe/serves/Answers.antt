@@ -1,7 +1,5 @@
-use Rattle.std.proofs.Common.{sym, ap, ◌∙◌, rules, to_z, w64, SFits, arith}
-use Rattle.std.proofs.lemmas.Int.{to_z-of_z}
-use Rattle.zone_spans.specs.Lines.{Line}
-use Rattle.zone_spans.proofs.RuleLemmas.{rules_are}
+use Rattle.std.proofs.{Common.{sym, ap, ◌∙◌, rules, to_z, w64, SFits, arith}, lemmas.Int.{to_z-of_z}}
+use Rattle.zone_spans.{specs.Lines.{Line}, proofs.RuleLemmas.{rules_are}}
 use Rattle.zone_spans.proofs.kept.KeptServe.serves.Goals as goal
 
 pub returns : goal.returns

@@ -1,15 +1,8 @@
-use Rattle.std.proofs.Common.{◌+◌, ◌++◌, ◌≤ℤ◌, List, ℤ, None, IsTrue, subst, sym, ap, ◌∙◌, pos, length, int_le, rules, to_z, of_z, w64, SFits, arith}
-use Rattle.std.specs.List.{last_or, list_all}
-use Rattle.std.proofs.lemmas.Int.{to_z-of_z}
+use Rattle.std.{proofs.Common.{◌+◌, ◌++◌, ◌≤ℤ◌, List, ℤ, None, IsTrue, subst, sym, ap, ◌∙◌, pos, length, int_le, rules, to_z, of_z, w64, SFits, arith}, specs.List.{last_or, list_all}, proofs.lemmas.Int.{to_z-of_z}}
 use Rattle.zone_values.specs.Bounds.{are_small_seconds}
-use Rattle.zone_spans.specs.Bounds.{can_fire, is_bounded_firing}
-use Rattle.zone_spans.specs.Firings.{Firing, year_firings}
-use Rattle.zone_spans.specs.Kept.{AreSummaries, IsLastSummary}
-use Rattle.zone_spans.specs.declared.kept.Summary.{Summary}
-use Rattle.zone_spans.proofs.KeptLemmas.{last_is, sound_savings, unended_small, year_summed}
-use Rattle.zone_spans.proofs.SoundLemmas.{bounded_offset, sound_rules}
+use Rattle.zone_spans.specs.{Bounds.{can_fire, is_bounded_firing}, Firings.{Firing, year_firings}, Kept.{AreSummaries, IsLastSummary}, declared.kept.Summary.{Summary}, Years.{earliest_year}}
+use Rattle.zone_spans.proofs.{KeptLemmas.{last_is, sound_savings, unended_small, year_summed}, SoundLemmas.{bounded_offset, sound_rules}}
 use Rattle.zone_spans.proofs.kept.Summaries.add_year.Goals as goal
-use Rattle.zone_spans.specs.Years.{earliest_year}
 
 pub fire_year-requires-clause-rules : goal.fire_year-requires-clause-rules
 fire_year-requires-clause-rules c =

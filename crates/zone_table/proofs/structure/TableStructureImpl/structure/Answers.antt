@@ -1,15 +1,7 @@
-use Rattle.std.proofs.Common.{◌≡◌, ◌++◌, sym, ap, ◌∙◌, subst, map as each}
+use Rattle.std.{proofs.Common.{◌≡◌, ◌++◌, sym, ap, ◌∙◌, subst, map as each}, specs.List.{flat_map}, specs.List.Sorted.{IsStrictlySortedBy}, specs.Map.Iter.{deref}, proofs.lemmas.List.{map-append}}
 use Rattle.std.specs.FinMap as map
-use Rattle.std.specs.List.{flat_map}
-use Rattle.std.specs.List.Sorted.{IsStrictlySortedBy}
-use Rattle.std.specs.Map.Iter.{deref}
-use Rattle.std.proofs.lemmas.List.{map-append}
-use Rattle.basics.specs.InOrder.{in_order}
-use Rattle.basics.specs.Keyed.{text_cmp}
-use Rattle.basics.specs.InOrderLaws.{sorted_in_order, any-in_order}
-use Rattle.zone_table.specs.NameTree.{children_in, tree_of, name_tree}
-use Rattle.zone_table.specs.Placed.{placed_cmp, placed_value}
-use Rattle.zone_table.proofs.TreeLemmas.{placed_total, placed_same, same_tree, same_names, same_children, names_sorted}
+use Rattle.basics.specs.{InOrder.{in_order}, Keyed.{text_cmp}, InOrderLaws.{sorted_in_order, any-in_order}}
+use Rattle.zone_table.{specs.NameTree.{children_in, tree_of, name_tree}, specs.Placed.{placed_cmp, placed_value}, proofs.TreeLemmas.{placed_total, placed_same, same_tree, same_names, same_children, names_sorted}}
 use Rattle.zone_table.proofs.structure.TableStructureImpl.structure.Goals as goal
 
 pub entries_of-requires : goal.entries_of-requires

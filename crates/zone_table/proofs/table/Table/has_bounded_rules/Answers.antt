@@ -1,7 +1,4 @@
-use Rattle.std.proofs.Common.{rules, refl, sym, ◌∙◌}
-use Rattle.std.specs.List.{list_all}
-use Rattle.std.proofs.lemmas.Iterator.Consumers.{YieldsList-from_rest}
-use Rattle.std.proofs.lemmas.Iterator.Search.{all_from_yields_List}
+use Rattle.std.{proofs.Common.{rules, refl, sym, ◌∙◌}, specs.List.{list_all}, proofs.lemmas.Iterator.Consumers.{YieldsList-from_rest}, proofs.lemmas.Iterator.Search.{all_from_yields_List}}
 use Rattle.zone_table.specs.Bounds.{is_bounded_rule}
 use Rattle.zone_table.proofs.table.Table.has_bounded_rules.Goals as goal
 

@@ -1,5 +1,4 @@
-use Rattle.std.proofs.Common.{ap, ◌∙◌}
-use Rattle.std.specs.FinMap.{get, get-empty}
+use Rattle.std.{proofs.Common.{ap, ◌∙◌}, specs.FinMap.{get, get-empty}}
 use Rattle.basics.specs.Keyed.{text_cmp}
 use Rattle.zone_table.proofs.table.Table.new.Goals as goal
 

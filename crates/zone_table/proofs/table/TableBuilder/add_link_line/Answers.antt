@@ -1,5 +1,4 @@
-use Rattle.std.proofs.Common.{ap, sym, ◌∙◌}
-use Rattle.std.specs.FinMap.{insert}
+use Rattle.std.{proofs.Common.{ap, sym, ◌∙◌}, specs.FinMap.{insert}}
 use Rattle.zone_table.proofs.Steps.{link_joins}
 use Rattle.zone_table.proofs.table.TableBuilder.add_link_line.Goals as goal
 

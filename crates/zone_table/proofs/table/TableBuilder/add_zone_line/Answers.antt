@@ -1,8 +1,7 @@
 use Rattle.std.proofs.Common.{ap, sym, subst, ◌∙◌}
 use Rattle.zone_values.specs.Values.{info_value, saving_value}
-use Rattle.zone_table.proofs.Steps.{zone_joins, with_item, HasRuleset, not_by_ruleset}
+use Rattle.zone_table.proofs.{Steps.{zone_joins, with_item, HasRuleset, not_by_ruleset}, table.TableBuilder.add_zone_line.Goals.{in-Multiple+else-not-contains_key, in_default}}
 use Rattle.zone_table.proofs.table.TableBuilder.add_zone_line.Goals as goal
-use Rattle.zone_table.proofs.table.TableBuilder.add_zone_line.Goals.{in-Multiple+else-not-contains_key, in_default}
 
 pub returns-clause-ok : goal.returns-clause-ok
 returns-clause-ok c =

@@ -1,6 +1,5 @@
 use Rattle.std.proofs.Common.{subst, sym}
-use Rattle.zone_table.proofs.BoundedValues.{bounded_values}
-use Rattle.zone_table.specs.Built.{StandsFor}
+use Rattle.zone_table.{proofs.BoundedValues.{bounded_values}, specs.Built.{StandsFor}}
 use Rattle.zone_table.proofs.table.TableBuilder.build.Goals as goal
 
 pub returns-clause-bounded : goal.returns-clause-bounded

@@ -1,8 +1,5 @@
-use Rattle.std.proofs.Common.{rules, ◌≡◌, ℕ, true, false, List, sym, ap, ◌∙◌}
-use Rattle.std.specs.List.{list_any}
-use Rattle.zone_table.specs.Formats.{format_of, has_placeholder, is_slash}
-use Rattle.zone_table.specs.declared.zone.Format.TheVariants.{Constant, Placeholder}
-use Rattle.zone_table.proofs.SlashLemmas.{passes_nowhere}
+use Rattle.std.{proofs.Common.{rules, ◌≡◌, ℕ, true, false, List, sym, ap, ◌∙◌}, specs.List.{list_any}}
+use Rattle.zone_table.{specs.Formats.{format_of, has_placeholder, is_slash}, specs.declared.zone.Format.TheVariants.{Constant, Placeholder}, proofs.SlashLemmas.{passes_nowhere}}
 use Rattle.zone_table.proofs.zone.Format.new.Goals as goal
 
 placeholder : (template text : List ℕ) → list_any is_slash template ≡ false → text ≡ template

@@ -1,5 +1,4 @@
-use Rattle.std.proofs.Common.{to_z-of_z}
-use Rattle.std.specs.Bool.{IsTrue}
+use Rattle.std.{proofs.Common.{to_z-of_z}, specs.Bool.{IsTrue}}
 use Rattle.zone_tail.proofs.CandidateLemmas.{ruled_constant}
 use Rattle.zone_tail.proofs.candidate.Candidate.is_constant.Goals as goal
 

@@ -1,5 +1,4 @@
-use Rattle.std.proofs.Common.{w64, FitsSigned, to_z-of_z, rules}
-use Rattle.std.specs.Bool.{IsTrue}
+use Rattle.std.{proofs.Common.{w64, FitsSigned, to_z-of_z, rules}, specs.Bool.{IsTrue}}
 use Rattle.zone_tail.proofs.CandidateLemmas.{fixed_at}
 use Rattle.zone_tail.proofs.candidate.Candidate.is_fixed_at.Goals as goal
 

@@ -1,10 +1,7 @@
-use Rattle.std.proofs.Common.{◌≡◌, ℤ, pos, ◌+ℤ◌, ◌-ℤ◌, ◌*ℤ◌, w32, w64, to_z, of_z, FitsSigned, to_z-of_z, rules, arith, ap, ◌∙◌}
-use Rattle.std.proofs.lemmas.Int.{ints}
+use Rattle.std.proofs.{Common.{◌≡◌, ℤ, pos, ◌+ℤ◌, ◌-ℤ◌, ◌*ℤ◌, w32, w64, to_z, of_z, FitsSigned, to_z-of_z, rules, arith, ap, ◌∙◌}, lemmas.Int.{ints}}
 use Rattle.basics.specs.Days.{day}
 use Rattle.tz_posix.specs.InForce.{moments_in, year_at}
-use Rattle.zone_tail.specs.Rules.{IsNearYear, time_of}
-use Rattle.zone_tail.proofs.PieceLemmas.{constant_up_to}
-use Rattle.zone_tail.proofs.YearLemmas.{year_at-in}
+use Rattle.zone_tail.{specs.Rules.{IsNearYear, time_of}, proofs.PieceLemmas.{constant_up_to}, proofs.YearLemmas.{year_at-in}}
 use Rattle.zone_tail.proofs.rule.YearlyRule.next_change.Goals as goal
 
 abbrev short : ℤ → ℤ

@@ -1,7 +1,6 @@
 use Rattle.std.proofs.Common.{to_z-of_z, rules, FitsSigned, w32, w64, ◌∙◌, subst, sym}
 use Rattle.tz_posix.specs.InForce.{year_at}
-use Rattle.zone_tail.specs.Rules.{IsNearYear}
-use Rattle.zone_tail.proofs.YearLemmas.{year_near}
+use Rattle.zone_tail.{specs.Rules.{IsNearYear}, proofs.YearLemmas.{year_near}}
 use Rattle.zone_tail.proofs.rule.YearlyRule.year_at.Goals as goal
 
 pub returns-clause-near : goal.returns-clause-near

@@ -1,10 +1,5 @@
-use Rattle.std.proofs.Common.{◌≡◌, ◌<◌, length, get_or, Ok, IfOk, IfErr, true, false, ap, sym, subst, ◌∙◌, arith}
-use Rattle.std.specs.Prelude.{bytes_eq}
-use Rattle.zone_tree.specs.ArchiveEntries.{of_file}
-use Rattle.zone_tree.specs.EverTold.{made_shown}
-use Rattle.zone_tree.specs.Told.{IsWhy}
-use Rattle.zone_tree.specs.declared.ever.Made.{Made}
-use Rattle.zone_tree.proofs.EverLemmas.{content_found, content_more}
+use Rattle.std.{proofs.Common.{◌≡◌, ◌<◌, length, get_or, Ok, IfOk, IfErr, true, false, ap, sym, subst, ◌∙◌, arith}, specs.Prelude.{bytes_eq}}
+use Rattle.zone_tree.{specs.ArchiveEntries.{of_file}, specs.EverTold.{made_shown}, specs.Told.{IsWhy}, specs.declared.ever.Made.{Made}, proofs.EverLemmas.{content_found, content_more}}
 use Rattle.zone_tree.proofs.ever.EverFilesZoneFiles.file.Goals as goal
 
 pub returns-then-eq-clause-ok : goal.returns-then-eq-clause-ok

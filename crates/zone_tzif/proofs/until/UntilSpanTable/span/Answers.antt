@@ -1,7 +1,6 @@
 use Rattle.std.proofs.Common.{◌≤◌, length, ap, sym, ◌∙◌, subst, arith}
 use Rattle.tz_ever.specs.EverShown.{ever_seen}
-use Rattle.tz_zone.specs.Sets.{span_in}
-use Rattle.tz_zone.specs.declared.set.FixedTimespanSet.{FixedTimespanSet}
+use Rattle.tz_zone.specs.{Sets.{span_in}, declared.set.FixedTimespanSet.{FixedTimespanSet}}
 use Rattle.zone_tzif.proofs.FrontLemmas.{front_length, span_front}
 use Rattle.zone_tzif.proofs.until.UntilSpanTable.span.Goals as goal
 

@@ -1,6 +1,5 @@
 use Rattle.std.proofs.Common.{Some, ap, sym, ◌∙◌, subst}
-use Rattle.zone_tzif_core.specs.Stored.{IsStored}
-use Rattle.zone_tzif_core.proofs.FileLemmas.{some_at}
+use Rattle.zone_tzif_core.{specs.Stored.{IsStored}, proofs.FileLemmas.{some_at}}
 use Rattle.zone_tzif_core.proofs.zone_file.ZoneFile.kind.Goals as goal
 
 pub named-requires : goal.named-requires

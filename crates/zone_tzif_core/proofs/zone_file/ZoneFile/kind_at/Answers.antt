@@ -1,8 +1,5 @@
-use Rattle.std.proofs.Common.{◌<◌, ◌∙◌, ℤ, ℕ, Some, pos, ap, sym, arith, length}
-use Rattle.std.proofs.lemmas.List.{get_or-map, length-map}
-use Rattle.zone_tzif_core.specs.Zones.{KindValue}
-use Rattle.zone_tzif_core.specs.ZoneFiles.{change_with, kind_numbered, kinds_kept, unnumbered}
-use Rattle.zone_tzif_core.proofs.FileLemmas.{some_at}
+use Rattle.std.proofs.{Common.{◌<◌, ◌∙◌, ℤ, ℕ, Some, pos, ap, sym, arith, length}, lemmas.List.{get_or-map, length-map}}
+use Rattle.zone_tzif_core.{specs.Zones.{KindValue}, specs.ZoneFiles.{change_with, kind_numbered, kinds_kept, unnumbered}, proofs.FileLemmas.{some_at}}
 use Rattle.zone_tzif_core.proofs.zone_file.ZoneFile.kind_at.Goals as goal
 
 pub index-requires : goal.index-requires

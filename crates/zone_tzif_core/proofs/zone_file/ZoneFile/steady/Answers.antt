@@ -1,11 +1,5 @@
-use Rattle.std.proofs.Common.{◌<◌, ◌∙◌, ℤ, ℕ, [], refl, sym, ap, length, arith, rules, w32, to_z, of_z, FitsSigned}
-use Rattle.std.proofs.lemmas.Int.{to_z-of_z}
-use Rattle.std.proofs.lemmas.Result.{IfOk-weaker}
-use Rattle.zone_tzif_core.specs.Shown.{record_shown}
-use Rattle.zone_tzif_core.specs.Stored.{IsStored}
-use Rattle.zone_tzif_core.specs.declared.stored.Stored.{Stored}
-use Rattle.zone_tzif_core.proofs.FileLemmas.{none_yet, steady_is, whole_kept}
-use Rattle.zone_tzif_core.proofs.NameLemmas.{grown_by}
+use Rattle.std.proofs.{Common.{◌<◌, ◌∙◌, ℤ, ℕ, [], refl, sym, ap, length, arith, rules, w32, to_z, of_z, FitsSigned}, lemmas.Int.{to_z-of_z}, lemmas.Result.{IfOk-weaker}}
+use Rattle.zone_tzif_core.{specs.Shown.{record_shown}, specs.Stored.{IsStored}, specs.declared.stored.Stored.{Stored}, proofs.FileLemmas.{none_yet, steady_is, whole_kept}, proofs.NameLemmas.{grown_by}}
 use Rattle.zone_tzif_core.proofs.zone_file.ZoneFile.steady.Goals as goal
 
 pub zone_file-requires-clause-kept : goal.zone_file-requires-clause-kept

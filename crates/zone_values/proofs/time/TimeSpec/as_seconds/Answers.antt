@@ -1,5 +1,4 @@
-use Rattle.std.proofs.Common.{arith}
-use Rattle.std.proofs.lemmas.Int.{ints}
+use Rattle.std.proofs.{Common.{arith}, lemmas.Int.{ints}}
 use Rattle.zone_values.proofs.time.TimeSpec.as_seconds.Goals as goal
 
 pub returns-in-HoursMinutesSeconds : goal.returns-in-HoursMinutesSeconds
