@@ -157,7 +157,7 @@ impl<T> Items<T> {
         self.vec.as_slice().get(place)
     }
 
-    /// Puts an item at a place, and gives back the one that was there.
+    /// Puts an item at a place, which counts from 0 and lies within, and gives back the one that was there.
     pub fn replace(&mut self, place: usize, item: T) -> T
         requires within { place < length self.old }
         ensures before { result ≡ slice_index_or self.old place result }
@@ -166,7 +166,7 @@ impl<T> Items<T> {
         std::mem::replace(&mut self.vec[place], item)
     }
 
-    /// Puts two items each in the other's place.
+    /// Puts two items each in the other's place. Places count from 0 and lie within.
     pub fn swap(&mut self, one: usize, other: usize)
         requires one { one < length self.old }
         requires other { other < length self.old }
@@ -175,7 +175,7 @@ impl<T> Items<T> {
         self.vec.swap(one, other);
     }
 
-    /// Takes out the item at a place; those behind it move up by one.
+    /// Takes out the item at a place, which counts from 0 and lies within; those behind it move up by one.
     pub fn remove(&mut self, place: usize) -> T
         requires within { place < length self.old }
         ensures before { result ≡ slice_index_or self.old place result }

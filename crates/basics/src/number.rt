@@ -47,7 +47,7 @@ pub fn i64_in(text: &str) -> Option<i64>
     text.parse::<i64>().ok()
 }
 
-/// What stands before the first such mark, and what stands after it; `None` where there is none.
+/// What stands before the first such mark, an ASCII character, and what stands after it; `None` where there is none.
 pub fn cut(mark: char, text: &str) -> Option<(&str, &str)>
     requires { mark < 128 }
     ensures { option_map (λ parts. (parts.0.now, parts.1.now)) result ≡ cut mark text.now }
@@ -55,7 +55,7 @@ pub fn cut(mark: char, text: &str) -> Option<(&str, &str)>
     text.split_once(mark)
 }
 
-/// What follows the mark, where the text begins with it.
+/// What follows the mark, an ASCII character, where the text begins with it; else `None`.
 pub fn after_mark(mark: char, text: &str) -> Option<&str>
     requires { mark < 128 }
     ensures { option_map (λ rest. rest.now) result ≡ after_mark mark text.now }
@@ -63,7 +63,7 @@ pub fn after_mark(mark: char, text: &str) -> Option<&str>
     text.strip_prefix(mark)
 }
 
-/// What stands before the mark, where the text ends with it.
+/// What stands before the mark, an ASCII character, where the text ends with it; else `None`.
 pub fn before_mark(mark: char, text: &str) -> Option<&str>
     requires { mark < 128 }
     ensures { option_map (λ front. front.now) result ≡ before_mark mark text.now }

@@ -36,22 +36,22 @@ pub trait NumericalDuration {
     fn seconds(self) -> SignedDuration
         ensures { result ≡ count self *ℤ pos 1_000_000_000 };
 
-    /// That many minutes.
+    /// That many minutes, where their seconds are an `i64`: `fits_minutes`.
     fn minutes(self) -> SignedDuration
         requires { IsTrue (fits_seconds (count self) minute) }
         ensures { result ≡ count self *ℤ pos (minute * 1000000000) };
 
-    /// That many hours.
+    /// That many hours, where their seconds are an `i64`: `fits_hours`.
     fn hours(self) -> SignedDuration
         requires { IsTrue (fits_seconds (count self) hour) }
         ensures { result ≡ count self *ℤ pos (hour * 1000000000) };
 
-    /// That many days.
+    /// That many days, where their seconds are an `i64`: `fits_days`.
     fn days(self) -> SignedDuration
         requires { IsTrue (fits_seconds (count self) day) }
         ensures { result ≡ count self *ℤ pos (day * 1000000000) };
 
-    /// That many weeks.
+    /// That many weeks, where their seconds are an `i64`: `fits_weeks`.
     fn weeks(self) -> SignedDuration
         requires { IsTrue (fits_seconds (count self) week) }
         ensures { result ≡ count self *ℤ pos (week * 1000000000) };

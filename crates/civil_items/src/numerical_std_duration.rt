@@ -34,22 +34,22 @@ pub trait NumericalStdDuration {
     fn std_seconds(self) -> StdDuration
         ensures { result ≡ count self * 1_000_000_000 };
 
-    /// That many minutes.
+    /// That many minutes, where their seconds are a `u64`: `fits_std_minutes`.
     fn std_minutes(self) -> StdDuration
         requires { IsTrue (fits_std_seconds (count self) minute) }
         ensures { result ≡ count self * (minute * 1000000000) };
 
-    /// That many hours.
+    /// That many hours, where their seconds are a `u64`: `fits_std_hours`.
     fn std_hours(self) -> StdDuration
         requires { IsTrue (fits_std_seconds (count self) hour) }
         ensures { result ≡ count self * (hour * 1000000000) };
 
-    /// That many days.
+    /// That many days, where their seconds are a `u64`: `fits_std_days`.
     fn std_days(self) -> StdDuration
         requires { IsTrue (fits_std_seconds (count self) day) }
         ensures { result ≡ count self * (day * 1000000000) };
 
-    /// That many weeks.
+    /// That many weeks, where their seconds are a `u64`: `fits_std_weeks`.
     fn std_weeks(self) -> StdDuration
         requires { IsTrue (fits_std_seconds (count self) week) }
         ensures { result ≡ count self * (week * 1000000000) };

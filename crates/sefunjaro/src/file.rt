@@ -144,7 +144,7 @@ impl FileZone {
     }
 
     /// The seconds east of UTC that are in force at each of some seconds from 1970-01-01 00:00:00 UTC, in their order, as far as they fit
-    /// in the room.
+    /// in the room. By UTC each lies in the years -9999 to 9999.
     pub fn offsets_at(&self, seconds: &[i64], room: &mut [i32])
         requires { AreInYears seconds.now }
         ensures { SaysOf self.now (λ footer. room.new ≡ filled (offsets_of (told_total_at (file_value self.now) footer) seconds.now) room.old) }

@@ -133,7 +133,7 @@ impl OpenSource {
         }
     }
 
-    /// The table of its lines.
+    /// The table of its lines, or of those of its plain form where it was opened in any form.
     pub fn table(&self) -> &Table
         ensures same { result.now ≡ table_in self.now }
         ensures bounded { IsBoundedTable result.now }

@@ -181,7 +181,7 @@ impl AnyZone {
     }
 
     /// The seconds east of UTC that are in force at each of some seconds from 1970-01-01 00:00:00 UTC, in their order, as far as they fit
-    /// in the room.
+    /// in the room. By UTC each lies in the years -9999 to 9999.
     pub fn offsets_at(&self, seconds: &[i64], room: &mut [i32])
         requires { AreInYears seconds.now }
         ensures { Seen self.now (λ total _. room.new ≡ filled (offsets_of total seconds.now) room.old) }
@@ -404,7 +404,7 @@ impl OpenZone {
     }
 
     /// The seconds east of UTC that are in force at each of some seconds from 1970-01-01 00:00:00 UTC, in their order, as far as they fit
-    /// in the room. One that lies in the span of the one before it is looked up nowhere.
+    /// in the room. By UTC each lies in the years -9999 to 9999. One that lies in the span of the one before it is looked up nowhere.
     pub fn offsets_at(&self, seconds: &[i64], room: &mut [i32])
         requires { AreInYears seconds.now }
         ensures { room.new ≡ filled (offsets_of (total_in self.now) seconds.now) room.old }

@@ -86,7 +86,7 @@ impl<'a> PosixTz<'a> {
         }
     }
 
-    /// The zone of the short form, else none.
+    /// The zone of the database that a string of the short form names; none for one of the other form.
     pub fn as_iana(&self) -> Option<Tz<'a>>
         ensures { option_map set_of result ≡ iana_of (posix_of self.now) }
     {

@@ -33,7 +33,11 @@ fn check_dst(offset: &Option<Offset>, rule: &Option<Rule>) -> Result<(), RangeEr
     check_own_rule(rule)
 }
 
-/// The miss of an offset, where one is written.
+/// Tests the range of an offset, where one is written.
+///
+/// # Errors
+///
+/// As of [`check_offset`].
 pub fn check_own_offset(offset: &Option<Offset>) -> Result<(), RangeError>
     ensures { result_err result ≡ option_and_then offset_miss offset.now }
 {
@@ -52,7 +56,12 @@ fn check_own_rule(rule: &Option<Rule>) -> Result<(), RangeError>
     }
 }
 
-/// The first miss of a rule: of both dates, the start's time and the end's.
+/// Tests the ranges of a rule, in this order: the start's date and the end's, the start's time and the end's.
+///
+/// # Errors
+///
+/// The first that is missed: `Date` where a day is not from J1 to J365, from 0 to 365, or of months 1 to 12, weeks 1 to 5 and weekdays 0
+/// to 6; `Time` where a time is out of the range of its kind, as past 23:59:59 in a POSIX string.
 pub fn check_rule<T: RuleTime>(rule: &Rule<T>) -> Result<(), RangeError>
     ensures { result_err result ≡ rule_range T.range rule.now }
 {
@@ -62,7 +71,11 @@ pub fn check_rule<T: RuleTime>(rule: &Rule<T>) -> Result<(), RangeError>
     check_rule_time(&rule.end.1)
 }
 
-/// The miss of an offset.
+/// Tests the range of an offset.
+///
+/// # Errors
+///
+/// `Time` exactly where its hours are past 24, or its minutes or seconds past 59.
 pub fn check_offset(offset: &Offset) -> Result<(), RangeError>
     ensures { result_err result ≡ offset_miss offset.now }
 {

@@ -25,7 +25,8 @@ fn is_over(text: &str) -> bool
     }
 }
 
-/// The offset of daylight saving time, where one is written, and the rest.
+/// The offset of daylight saving time at the front of a text, or no offset at its end or at a comma, and the rest; else none. Its range
+/// isn't tested.
 #[tactic(auto, unfolding(crate::specs::Reading::own_offset_at))]
 pub fn own_offset(text: &str) -> Option<(Option<Offset>, &str)>
     ensures { read_as (λ offset. offset) result ≡ own_offset_at text.now }

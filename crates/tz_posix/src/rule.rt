@@ -40,7 +40,7 @@ pub struct YearlyRule {
 impl YearlyTime {
     ghost use Rattle.tz_posix.specs.Yearly.{time_shown};
 
-    /// So many seconds from the midnight of a day that a rule may have.
+    /// So many seconds from the midnight of a day that a rule may have, whose numbers are in their ranges.
     pub fn at(date: Date, seconds: i32) -> YearlyTime
         requires { IsTrue (is_rule_date date) }
         ensures { time_shown result ≡ (date, seconds) }
@@ -60,7 +60,7 @@ impl YearlyTime {
         YearlyTime::at(moment.0, seconds)
     }
 
-    /// The second at which clocks at that offset show the time in a year of -10000 to 10000.
+    /// The second, from 1970-01-01 00:00:00 UTC, at which clocks at that offset show the time in a year of -10000 to 10000.
     #[tactic(auto, unfolding(crate::specs::InForce::instant_in))]
     pub fn in_year(&self, year: i32, offset: UtcOffset) -> i64
         requires { IsCountedYear year }
@@ -73,7 +73,7 @@ impl YearlyTime {
 impl YearlyRule {
     ghost use Rattle.tz_posix.specs.Yearly.{moments_shown, time_shown};
 
-    /// The start and the end of a rule.
+    /// The start and the end of a rule, whose numbers are in their ranges.
     pub fn new<T: RuleTime>(rule: &Rule<T>) -> YearlyRule
         requires { rule_range T.range rule.now ≡ None }
         ensures start { time_shown result.start ≡ moment_of T.range rule.now.start }
@@ -154,7 +154,8 @@ fn year_at(offset: UtcOffset, second: i64) -> Option<i32>
     year_of_second(second + i64::from(offset.whole_seconds()))
 }
 
-/// The year of the date at a second, where clocks are that far ahead of UTC; past the years of dates it is -10000 or 10000.
+/// The year of the date at a second from 1970-01-01 00:00:00 UTC, at most 800,000,000,000 in size, where clocks are that far ahead of
+/// UTC; past the years of dates it is -10000 or 10000.
 #[tactic(auto, unfolding(crate::specs::InForce::year_at))]
 pub fn counted_year_at(offset: UtcOffset, second: i64) -> i32
     requires { unsigned_abs second ≤ 800_000_000_000 }

@@ -13,7 +13,7 @@ pub trait RuleTime: Drop {
     /// The time at the front of a text, and the rest.
     ghost time_at: { List ℕ → Option (Self × List ℕ) };
 
-    /// A time at the front, and the rest.
+    /// The time at the front of a text, and the rest; none where there is none. Its range isn't tested.
     fn at_front(text: &str) -> Option<(Self, &str)>
         ensures { read_as (λ time. time) result ≡ time_at text.now };
 

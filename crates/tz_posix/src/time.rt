@@ -78,7 +78,7 @@ impl Offset {
         if self.positive { seconds } else { -seconds }
     }
 
-    /// The offset from UTC, which lies east of it where this one is negative.
+    /// The offset from UTC, which lies east of it where this one is negative. Its numbers are in their ranges.
     pub fn to_utc_offset(&self) -> UtcOffset
         requires { offset_miss self.now ≡ None }
         ensures value { result ≡ east_of self.now }
@@ -96,7 +96,8 @@ pub(crate) fn offset_of(seconds: i32) -> UtcOffset
     UtcOffset::from_whole_seconds(seconds).unwrap()
 }
 
-/// The offset of daylight saving time: an hour ahead of standard time where it has none of its own.
+/// The offset of daylight saving time: an hour ahead of standard time where it has none of its own. Both offsets are less than 25 hours in
+/// size.
 pub fn saving_offset(own: &Option<Offset>, standard: UtcOffset) -> UtcOffset
     requires own { option_and_then offset_miss own.now ≡ None }
     requires standard { IsWritten standard }

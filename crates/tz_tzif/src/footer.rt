@@ -64,7 +64,7 @@ impl<'a> Footer<'a> {
         }
     }
 
-    /// What holds at a second from 1970-01-01 00:00:00 UTC.
+    /// What holds at a second from 1970-01-01 00:00:00 UTC, at most 800,000,000,000 in size.
     ///
     /// Daylight saving time holds from each year's start, read at the standard offset, up to, without, that year's end, read at
     /// the offset of daylight saving time, or, where the end lies before the start, the next year's. Both may lie past their
@@ -92,7 +92,8 @@ impl<'a> Footer<'a> {
         }
     }
 
-    /// A later second up to which the same holds as at a second of the years -4000 to 8000.
+    /// A later second up to which the same holds as at a second, at most 200,000,000,000 in size: of the years -4000 to 8000. Seconds are
+    /// those from 1970-01-01 00:00:00 UTC.
     pub fn next_change(&self, second: i64) -> i64
         requires { unsigned_abs second ≤ 200_000_000_000 }
         ensures later { second <ℤ result }

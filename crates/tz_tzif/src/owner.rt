@@ -57,7 +57,7 @@ impl TzifOwner {
         }
     }
 
-    /// The seconds east of UTC at a second from 1970-01-01 00:00:00 UTC, of some 25,000 years to each side, by what the footer says.
+    /// The seconds east of UTC at a second from 1970-01-01 00:00:00 UTC, at most 800,000,000,000 in size, by what the footer says.
     pub fn total_at(&self, second: i64) -> i32
         requires { unsigned_abs second ≤ 800_000_000_000 }
         ensures total { IsTotalIn (value_in self.now) second result }

@@ -78,7 +78,7 @@ impl<'a> TzifTz<'a> {
         InstantsOf::new(self, date_time)
     }
 
-    /// The seconds east of UTC at a second from 1970-01-01 00:00:00 UTC, of some 25,000 years to each side.
+    /// The seconds east of UTC at a second from 1970-01-01 00:00:00 UTC, at most 800,000,000,000 in size.
     pub fn total_at(&self, second: i64) -> i32
         requires { unsigned_abs second ≤ 800_000_000_000 }
         ensures { result ≡ total_in (value_of self.now) (says_of self.now) second }
@@ -105,7 +105,8 @@ impl<'a> TzifTz<'a> {
         (self.total_at(second), until)
     }
 
-    /// A later second up to which the same holds as at a second of the years -4000 to 8000.
+    /// A later second up to which the same holds as at a second, at most 200,000,000,000 in size: of the years -4000 to 8000. Seconds are
+    /// those from 1970-01-01 00:00:00 UTC.
     #[tactic(auto, unfolding(crate::specs::InForce::kind_in))]
     pub fn next_change(&self, second: i64) -> i64
         requires { unsigned_abs second ≤ 200_000_000_000 }

@@ -24,7 +24,7 @@ impl<'a, S: SpanTable> InstantsIn<'a, S> {
     ghost use Rattle.civil_base.specs.DateTimes.{instant};
     ghost use Rattle.tz_zone.specs.{InForce.{all_in_force, shown_of, AreInstants}, InstantsLeft.{dates_left}, Sets.{schedule_of, IsAccepted}};
 
-    /// The instants that the set reads as that local time.
+    /// The instants that the set, which can be looked up, reads as that local time.
     pub fn new(set: &'a S, local: &PlainDateTime) -> InstantsIn<'a, S>
         requires accepted { IsAccepted (schedule_of (S.seen set.now)) }
         ensures all { map shown_of (dates_left result) ≡ all_in_force (total_at (schedule_of (S.seen set.now))) local.now }

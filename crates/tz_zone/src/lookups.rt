@@ -120,18 +120,18 @@ pub trait SpanTable {
         ensures count { result ≡ length (seen self.now).others }
         ensures bound { result < 18446744073709551615 };
 
-    /// The second of an entry, which counts from 0.
+    /// The second of an entry, from 1970-01-01 00:00:00 UTC. Entries count from 0.
     fn time(&self, index: usize) -> i64
         requires { index < length (seen self.now).others }
         ensures { result ≡ (shift_at (shifts_of (seen self.now)) index).0 };
 
-    /// The span of that number.
+    /// The span of that number, from 0 up to the count of entries.
     fn span(&self, index: usize) -> &FixedTimespan
         requires { index ≤ length (seen self.now).others }
         ensures { result.now ≡ span_in (seen self.now) index };
 }
 
-/// The total offset of a span of an accepted set.
+/// The total offset of a span of an accepted set, by the span's number from 0 on.
 pub fn offset_of<T: SpanTable>(set: &T, index: usize) -> UtcOffset
     requires accepted { IsAccepted (schedule_of (T.seen set.now)) }
     requires within { index ≤ length (T.seen set.now).others }
@@ -165,7 +165,7 @@ pub(crate) fn first_local_spans_at<T: SpanTable>(set: &T, second: i64) -> Offset
     }
 }
 
-/// The first span from an index on that contains a local second. Past the last span there is none.
+/// The first span from an index on that contains a local second, of a set that can be looked up. Past the last span there is none.
 pub fn next_span<T: SpanTable>(set: &T, second: i64, from: usize) -> Option<usize>
     requires accepted { IsAccepted (schedule_of (T.seen set.now)) }
     ensures within { IfSome result (λ k. k ≤ length (T.seen set.now).others) }
@@ -216,7 +216,8 @@ fn order_at<T: SpanTable>(set: &T, index: usize, second: i64) -> Ordering
     }
 }
 
-/// The span in force at a second, where the entries before `low` are at or before it and those from `high` on after it.
+/// The span in force at a second, where the entries before `low` are at or before it and those from `high` on after it. The set can be
+/// looked up.
 pub fn span_between<T: SpanTable, L: Ledger>(
     set: &T,
     second: i64,
@@ -335,7 +336,7 @@ fn spans_under<T: SpanTable, L: Ledger>(
 
 /// The spans at whose totals a local time is read, by time: all of them, or the first two. On an orderly set two of them are
 /// neighbours. The local time is that of a date-time at UTC. The entries before `low` and those from `high` on lie further from it than
-/// the greatest offset, and aren't looked at in an orderly set.
+/// the greatest offset, and aren't looked at in an orderly set. The set can be looked up, and `orderly` tells whether it is orderly.
 pub fn local_spans<T: SpanTable>(
     set: &T,
     orderly: bool,

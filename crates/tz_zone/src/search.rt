@@ -119,7 +119,7 @@ impl<L: Ledger> Model for Steps<L> {
 }
 
 impl<L: Ledger> Steps<L> {
-    /// No step yet, in a ledger that begins here.
+    /// No step yet, in the ledger that begins with this blank: one of `L`, in one part or more.
     pub fn new(blank: Blank) -> Steps<L>
         requires name { blank.name ≡ L.name }
         requires parts { blank.parts ≡ L.parts }

@@ -229,7 +229,7 @@ pub trait AllInstants: TimeZone {
     fn begin(&self, local: &PlainDateTime) -> Self::Cursor
         ensures { map shown_of (left self.now result) ≡ all_in_force (Self.total_at self.now) local.now };
 
-    /// Takes the next one out.
+    /// Takes the next one out; none where none is left.
     fn next(&self, cursor: &mut Self::Cursor) -> Option<OffsetDateTime>
         ensures { YieldsFirst (left self.now) cursor.old result cursor.new };
 }
@@ -299,7 +299,7 @@ impl SpanScan {
     ghost use Rattle.zone_spans.specs.Schedules.{total_at};
     ghost use Rattle.tz_zone.specs.{Cursors.{dates_to_scan}, InForce.{all_in_force, shown_of}, Sets.{schedule_of, IsAccepted}, declared.set.FixedTimespanSet.{FixedTimespanSet as Spans}};
 
-    /// Each span is still to look at.
+    /// Each span is still to look at for a local time.
     pub fn new(local: &PlainDateTime) -> SpanScan
         ensures all { (set : Spans) → IsAccepted (schedule_of set) →
             map shown_of (dates_to_scan set result) ≡ all_in_force (total_at (schedule_of set)) local.now }
@@ -312,7 +312,7 @@ impl SpanScan {
         }
     }
 
-    /// The local time at the total of the next span of a set that contains it.
+    /// The local time at the total of the next span of a set that contains it; none where no further one does. The set can be looked up.
     pub fn next<T: SpanTable>(&mut self, set: &T) -> Option<OffsetDateTime>
         requires { IsAccepted (schedule_of (T.seen set.now)) }
         ensures { YieldsFirst (dates_to_scan (T.seen set.now)) self.old result self.new }
@@ -340,7 +340,7 @@ impl SpanCursor {
     ghost use Rattle.std.specs.Iterator.{YieldsFirst};
     ghost use Rattle.tz_zone.specs.{Cursors.{cursor_left}, Sets.{schedule_of, IsAccepted}};
 
-    /// The next of them.
+    /// The next of them; none where none is left. The set can be looked up.
     pub fn next<T: SpanTable>(&mut self, set: &T) -> Option<OffsetDateTime>
         requires { IsAccepted (schedule_of (T.seen set.now)) }
         ensures { YieldsFirst (cursor_left (T.seen set.now)) self.old result self.new }

@@ -39,7 +39,7 @@ impl<'a> TzOffset<'a> {
     ghost use Rattle.civil_base.specs.Instants.{instant_at};
     ghost use Rattle.tz_zone.specs.{Answers.{listed, EachOf, IsUpTo}, InForce.{AreRead, IsInForce}, Sets.{schedule_of, IsAccepted, span_in, total_of_span}, Zones.{span_shown, total_shown, IsGivenFor}};
 
-    /// The offset of a span of a set that can be looked up.
+    /// The offset of a span of a set that can be looked up, by the span's number from 0 on.
     pub fn of_span<T: SpanTable>(set: &'a T, index: usize) -> TzOffset<'a>
         requires accepted { IsAccepted (schedule_of (T.seen set.now)) }
         requires within { index ≤ length (T.seen set.now).others }
@@ -53,7 +53,7 @@ impl<'a> TzOffset<'a> {
         }
     }
 
-    /// The offsets of some spans.
+    /// The offsets of some spans of a set that can be looked up, by their numbers from 0 on.
     pub fn of_spans<T: SpanTable>(
         set: &'a T,
         spans: OffsetResult<usize>,

@@ -50,7 +50,7 @@ impl Daily {
     ghost use Rattle.std.specs.Prelude.{◌≡◌, map, option_map, string_bytes};
     ghost use Rattle.zone_alarm.specs.Asks.{AnswersRings, daily_in};
 
-    /// The alarm of the words START, TIME and DAYS.
+    /// The alarm of the words START, a date `YYYY-MM-DD`, TIME, as `hh:mm:ss`, and DAYS, from 1 to 36600; none where they are in no such form.
     pub fn of_words(words: &[String]) -> Option<Daily>
         ensures { option_map (λ daily. (daily.start, daily.days)) result ≡ daily_in (map string_bytes words.now) }
     {

@@ -70,7 +70,7 @@ impl AnswerError {
     ghost use Rattle.tz_lookup.specs.Compiles.{IsZoneFault};
     ghost use Rattle.zone_answers.specs.Told.{fault_told, RefusesZone};
 
-    /// Why the zone that the nth request names can't be asked, or want of memory.
+    /// Why the zone that the request of that number names can't be asked, or want of memory. Requests count from 1.
     pub fn of_zone(number: usize, fault: ZoneFault) -> AnswerError
         ensures { RefusesZone number fault result }
     {

@@ -39,7 +39,8 @@ pub trait Answerer {
     /// What is made of an input.
     ghost makes: { Makings };
 
-    /// What is due for what words ask, at the instant at which they ask it, over the text of the named file.
+    /// What is due for what words ask, at the instant at which they ask it, over the text of the named file, which has at most
+    /// 16,777,216 bytes.
     ///
     /// # Errors
     ///
@@ -54,8 +55,8 @@ pub trait Answerer {
         requires { length text.now ≤ LIMIT }
         ensures { IsDue (due (words_shown asked.now) (instant now.now) file.now text.now) result };
 
-    /// Answers what comes in as words ask that `stream` or `log` is in, over the text of the named file: before each read all that is
-    /// due by then is written.
+    /// Answers what comes in as words ask that `stream` or `log` is in, over the text of the named file, which has at most 16,777,216
+    /// bytes: before each read all that is due by then is written.
     ///
     /// # Errors
     ///

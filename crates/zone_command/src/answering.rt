@@ -185,7 +185,8 @@ fn reply<S: ZoneSource>(
     }
 }
 
-/// What is due for what words ask, at the instant at which they ask it, over the text of the named file as a source of that kind.
+/// What is due for what words ask, at the instant at which they ask it, over the text of the named file as a source of that kind. The
+/// text has at most 16,777,216 bytes.
 ///
 /// # Errors
 ///

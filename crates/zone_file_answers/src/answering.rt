@@ -13,7 +13,7 @@ use zone_source::{LIMIT, LineList, Lines, text_of};
 use zone_tzif_core::{ReadFault, one_saying, read_file, said_bounds, said_footer};
 
 /// Answers each request over the zone of a file, in order. Lines end at an LF, a CR before it is dropped, and they are
-/// numbered from 1.
+/// numbered from 1. The requests have at most 16,777,216 bytes.
 ///
 /// # Errors
 ///

@@ -7,7 +7,7 @@ use crate::respond::FileAnswers;
 use std::alloc::Global;
 use zone_source::{Shelf, Sink, Source, Status, run_over};
 
-/// Answers the requests of the input over the compiled zone file of the shelf that the words name, and writes the answers, or
+/// Answers the requests of the input over the compiled zone file of the shelf that the one word names, and writes the answers, or
 /// the first fault, to the output.
 ///
 /// It works in this order: the words; the file to its end; the input to its end; the answers; the writing. What each status says is

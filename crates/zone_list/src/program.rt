@@ -44,7 +44,7 @@ impl Window {
     ghost use Rattle.zone_list.specs.Asks.{asks, window_in};
     ghost use Rattle.zone_run.specs.Asked.{Answers};
 
-    /// The window of the words FROM and TO, whole numbers of at most 13 digits.
+    /// The window of the words FROM and TO, whole numbers of seconds from 1970-01-01 00:00:00 UTC, of at most 13 digits; else none.
     pub fn of_words(words: &[String]) -> Option<Window>
         ensures { option_map (λ window. (window.from, window.to)) result ≡ window_in (map string_bytes words.now) }
     {
@@ -60,7 +60,7 @@ impl Window {
         Some(Window { from, to })
     }
 
-    /// The rows of the window, each with its LF, as the program writes them.
+    /// The rows of the window of a set that can be looked up, each with its LF, as the program writes them.
     ///
     /// # Errors
     ///

@@ -11,7 +11,7 @@ use civil_base::OffsetDateTime;
 
 /// The time at the front of a text, as logs have them, and of how many bytes its text is: `@S` or `@S.F`, a text of RFC 3339,
 /// or a plain number of 9 to 11 digits as seconds, 12 to 14 as milliseconds, 15 to 17 as microseconds, 18 to 20 as nanoseconds.
-/// What follows is the end of the text or a byte other than an ASCII letter, a digit, `.`, `:` and `-`.
+/// What follows is the end of the text or a byte other than an ASCII letter, a digit, `.`, `:` and `-`. Else there is none.
 pub fn read_stamp(text: &[u8]) -> Option<(OffsetDateTime, usize)>
     ensures value { option_map stamp_shown result ≡ stamp_in text.now }
     ensures exact { MatchOption result ((t : ℤ) (size : ℕ) → ¬ (HasStamp text.now t size))

@@ -12,7 +12,7 @@ pub trait Exchange {
     /// What it did, what is still to come, and its counts of faults.
     ghost seen: { Self → ExchangeSeen };
 
-    /// Puts the next bytes at the front of the buffer and answers how many; 0 only at the end.
+    /// Puts the next bytes at the front of the buffer, which isn't empty, and answers how many; 0 only at the end.
     ///
     /// # Errors
     ///
@@ -22,7 +22,7 @@ pub trait Exchange {
         ensures bound { IfOk result (λ n. n ≤ length into.old) }
         ensures receives { Receives (seen self.old) (seen self.new) into.new result };
 
-    /// Takes the first bytes of the piece, at least one, and answers how many.
+    /// Takes the first bytes of the piece, which isn't empty, at least one, and answers how many.
     ///
     /// # Errors
     ///

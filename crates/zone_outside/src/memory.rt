@@ -84,7 +84,8 @@ impl Model for MemSource {
 }
 
 impl MemSource {
-    /// A source of these bytes, which gives at most `step` of them a read and fails the reads whose numbers are listed.
+    /// A source of these bytes, which gives at most `step` of them a read, 1 at least, and fails the reads whose numbers, from 1 on, are
+    /// listed.
     pub fn new(bytes: Vec<u8>, step: usize, fails: Vec<u64>) -> MemSource
         requires { 0 < step }
         ensures { result ≡ record { left = bytes.items; step = step; given = 0; calls = fresh_calls fails.items } }
@@ -152,8 +153,8 @@ impl Model for MemShelf {
 }
 
 impl MemShelf {
-    /// A shelf of these texts by name, of which the first of a name counts. A read gives at most `step` bytes, and the
-    /// calls of `fetch` and `read` whose numbers are listed fail.
+    /// A shelf of these texts by name, of which the first of a name counts. A read gives at most `step` bytes, 1 at least, and the
+    /// calls of `fetch` and `read` whose numbers, from 1 on, are listed fail.
     pub fn new(files: Vec<(String, Vec<u8>)>, step: usize, fails: Vec<u64>) -> MemShelf
         requires { 0 < step }
         ensures { result ≡ record { files = files_of files.items; left = []; step = step; given = 0; calls = fresh_calls fails.items } }
@@ -298,8 +299,8 @@ impl Model for MemSink {
 }
 
 impl MemSink {
-    /// A sink with room for `room` bytes, which takes at most `step` of them a write and fails the writes whose numbers
-    /// are listed.
+    /// A sink with room for `room` bytes, which takes at most `step` of them a write, 1 at least, and fails the writes whose
+    /// numbers, from 1 on, are listed.
     ///
     /// # Errors
     ///

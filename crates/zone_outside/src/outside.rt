@@ -33,7 +33,7 @@ pub trait Source {
     /// The names that a shelf may be asked for. No call changes it.
     ghost open_to: { Self → List ℕ → Type 0 } = { λ _ _. Unit {0} };
 
-    /// Puts the next bytes at the front of the buffer and answers how many; 0 only at the end.
+    /// Puts the next bytes at the front of the buffer, which isn't empty, and answers how many; 0 only at the end.
     ///
     /// # Errors
     ///
@@ -70,7 +70,7 @@ pub trait Sink {
     /// How often it has failed, up to the last value of the count.
     ghost faults: { Self → ℕ };
 
-    /// Takes the first bytes of the piece, at least one, and answers how many.
+    /// Takes the first bytes of the piece, which isn't empty, at least one, and answers how many.
     ///
     /// # Errors
     ///

@@ -98,7 +98,8 @@ impl Model for MemClock {
 }
 
 impl MemClock {
-    /// A clock that tells this time, and fails the calls whose numbers are listed.
+    /// A clock that tells this time, in nanoseconds from 1970-01-01 00:00:00 UTC, fewer than those of 2^63 seconds, and fails the calls whose
+    /// numbers, from 1 on, are listed.
     pub fn new(time: u128, fails: Vec<u64>) -> MemClock
         requires { time < clock_end }
         ensures { result ≡ record { time = time; calls = fresh_calls fails.items } }
@@ -211,7 +212,7 @@ impl Model for MemEnvironment {
 }
 
 impl MemEnvironment {
-    /// An environment of these names and values, of which the first of a name counts; the calls whose numbers are listed fail.
+    /// An environment of these names and values, of which the first of a name counts; the calls whose numbers, from 1 on, are listed fail.
     pub fn new(values: Vec<(String, String)>, fails: Vec<u64>) -> MemEnvironment
         ensures { result ≡ record { values = values.items; calls = fresh_calls fails.items } }
     {

@@ -135,7 +135,7 @@ pub struct LogTimes<T: InstantTexts + Drop> {
 }
 
 impl<T: InstantTexts + Drop> LogTimes<T> {
-    /// Of times in the field of that number; 0 stands for the beginning of the line, before any blank.
+    /// Of times in the field of that number, at most 4,096; 0 stands for the beginning of the line, before any blank.
     pub fn new(texts: T, field: usize) -> LogTimes<T>
         requires { field ≤ 4096 }
         ensures { ⟦<LogTimes<T> as Rewriter>⟧.rewritten result ≡ log_front field (T.shown texts) }

@@ -15,7 +15,7 @@ pub trait Responder {
     /// The response to each request.
     ghost replies: { Self → Replies };
 
-    /// Adds the response to the request to the output; whether it is a fault.
+    /// Adds the response to the request, of at most [`LONGEST`] bytes, to the output; whether it is a fault.
     ///
     /// # Errors
     ///

@@ -65,9 +65,9 @@ pub fn run_stream<R: Responder + Drop, E: Exchange>(
     run_filter(alloc, &mut lines, exchange)
 }
 
-/// Rewrites a log as it comes: each line that begins with a time, or has one in the field of that number, with what is shown for it in
-/// its place and every other byte as it was, and any other line as it is. Lines may be of any length; a time has to end within the
-/// first 4,096 bytes of its line. Of a longer line all that has come is written before more is read.
+/// Rewrites a log as it comes: each line that begins with a time (field 0), or has one in the field of that number, at most 4,096, with
+/// what is shown for it in its place and every other byte as it was, and any other line as it is. Lines may be of any length; a time has
+/// to end within the first 4,096 bytes of its line. Of a longer line all that has come is written before more is read.
 ///
 /// What each end says is told field by field by `Ends`.
 pub fn run_log<T: InstantTexts + Drop, E: Exchange>(

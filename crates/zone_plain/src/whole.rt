@@ -297,7 +297,7 @@ fn read_under(
 /// then its rules, then its zones, then its links, each in the order of the source, a line each, with `%z` written out and each link led
 /// to its zone. A ruleset whose name RULES can't say has another name there, and every other one its own. Each line is written so that
 /// `LineParser::parse_str` reads it as what is meant, and a source of what is written names the release of the source and has the rules,
-/// the zones and the links that are meant.
+/// the zones and the links that are meant. The source is at most 16,777,216 bytes long.
 ///
 /// # Errors
 ///

@@ -60,7 +60,7 @@ fn add_string(into: &mut Vec<u8>, text: &str) -> Result<(), AllocError>
     Ok(())
 }
 
-/// Adds a text as a string.
+/// Adds a text as a string of JSON.
 ///
 /// # Errors
 ///

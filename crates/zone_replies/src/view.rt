@@ -38,7 +38,7 @@ pub trait ReplyZone {
     fn force_at(&self, alloc: Global, second: i64) -> Result<Force, AllocError>
         ensures { IfOk result (λ force. force_shown force ≡ (view self.now).force second) };
 
-    /// What is in force just before it.
+    /// What is in force just before that second.
     ///
     /// # Errors
     ///

@@ -5,7 +5,7 @@ ghost use Rattle.zone_run.specs.Numbers.{is_number, number_in};
 use itoa::Buffer;
 
 /// The whole number of at most that size whose decimal text the word is: an optional `-`, and digits without a leading
-/// zero but for `0` itself; `-0` is none.
+/// zero but for `0` itself; `-0` is none. The size is below 2^63.
 pub fn number_in(word: &str, most: u64) -> Option<i64>
     requires { most < 2 ^ 63 }
     ensures { result ≡ number_in most word.now }

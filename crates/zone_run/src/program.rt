@@ -48,7 +48,11 @@ pub trait ZoneProgram: Drop {
     fn read(words: &[String]) -> Option<Self>
         ensures { option_map asked result ≡ form (map string_bytes words.now) };
 
-    /// The bytes that are due for the spans of the zone, which can be looked up, or why there are none.
+    /// The bytes that are due for the spans of the zone, which can be looked up.
+    ///
+    /// # Errors
+    ///
+    /// The program's own cause, exactly where it has one; or want of memory.
     fn answer(&self, alloc: Global, zone: &Self::Zone) -> Result<Vec<u8>, Refusal>
         requires { IsAccepted (schedule_of (Self.Zone.seen zone.now)) }
         ensures { Answers (asked self.now) (Self.Zone.seen zone.now) result };

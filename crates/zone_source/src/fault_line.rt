@@ -42,7 +42,7 @@ impl FaultText {
         }
     }
 
-    /// Of a line of a side, `source ` or `request `, that is no text.
+    /// Of a line of a side, `source ` or `request `, that is no text, by its number.
     pub fn no_text(side: &'static str, number: usize) -> FaultText
         requires { length side.now ≤ 8 }
         ensures line { line_shown result ≡ line_with side.now number [] (codes "not text") }
@@ -56,7 +56,7 @@ impl FaultText {
         }
     }
 
-    /// Of a source line that is refused by itself.
+    /// Of a source line that is refused by itself, by its number; not for want of memory.
     pub fn of_line(number: usize, error: &zone_line::Error) -> FaultText
         requires { IsSome (fault_of error.now) }
         ensures line { IfSome (fault_of error.now) (λ f. line_shown result ≡ bad_line_text number f) }
@@ -70,7 +70,7 @@ impl FaultText {
         }
     }
 
-    /// Of a source line that does not join those before it.
+    /// Of a source line that does not join those before it, by its number.
     pub fn of_join(number: usize, kind: BuildKind) -> FaultText
         ensures line { line_shown result ≡ bad_join_text number kind }
         ensures short { IsShort result }

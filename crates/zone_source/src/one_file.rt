@@ -22,7 +22,7 @@ pub trait FileProgram {
     /// The bytes that are due over a source: the answer, or the line of the cause.
     ghost due: { List ℕ → List ℕ };
 
-    /// What is due over a source.
+    /// What is due over a source of at most 16,777,216 bytes.
     ///
     /// # Errors
     ///

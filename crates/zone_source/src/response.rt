@@ -15,7 +15,7 @@ pub enum Response {
     Fault(Vec<u8>),
 }
 
-/// A line that tells a fault of a source, with its LF.
+/// A line that tells a fault of a source, with its LF. Side, group and cause have at most 40 bytes together.
 ///
 /// # Errors
 ///

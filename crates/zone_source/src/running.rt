@@ -84,7 +84,7 @@ pub trait TextAnswers {
     /// What it writes.
     ghost writes: { Self → Writes };
 
-    /// Answers the requests over the text, and writes the answers or the line of the first fault.
+    /// Answers the requests over the text, and writes the answers or the line of the first fault. Each has at most 16,777,216 bytes.
     fn respond<O: Sink>(
         &self,
         alloc: Global,
@@ -151,7 +151,7 @@ pub trait FileTask: Drop {
     fn file(&self) -> &str
         ensures { result.now ≡ work.file (asked self.now) };
 
-    /// What is due over the text of the file.
+    /// What is due over the text of the file, which has at most 16,777,216 bytes.
     ///
     /// # Errors
     ///

@@ -37,7 +37,7 @@ pub trait TableTransitions {
     /// the name. All entries are put in order of time, and then `collapse` goes through them. What holds before them is the
     /// first line's saving, or where it has a ruleset the first entry with no saving.
     ///
-    /// The rules are those of `parse-zoneinfo`; that an end is read by its clock is the zic manual's.
+    /// The rules are those of `parse-zoneinfo`; that an end is read by its clock is the zic manual's. The table is bounded.
     ///
     /// # Errors
     ///

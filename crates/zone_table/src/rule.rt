@@ -65,7 +65,8 @@ impl RuleInfo {
     }
 
     /// Whether the rule fires in a year: its first year is at most that one, and its last at least.
-    /// A rule with no last year of its own fires in its first year alone.
+    /// A rule with no last year of its own fires in its first year alone. The rule's years
+    /// [can be compared](RuleInfo::has_years) with one.
     #[tactic(auto, unfolding(crate::specs::Moments::applies_to_year, crate::specs::Moments::last_year))]
     pub fn applies_to_year(&self, year: i64) -> bool
         requires { IsTrue (has_years self.now) }
@@ -77,7 +78,9 @@ impl RuleInfo {
 
     /// When the rule fires in a year, in seconds from 1970-01-01 00:00 UTC, under a standard offset
     /// and a saving in force before it, both in seconds. A wall time is read with both, a standard
-    /// time with the offset alone, and a time of UTC with neither.
+    /// time with the offset alone, and a time of UTC with neither. The year is from 1 to 9999 and
+    /// has the rule's day, a day number is from 1 to 31, and the time of day, the offset and the
+    /// saving are at most 1,000,000 in size.
     #[tactic(auto, unfolding(crate::specs::Moments::moment))]
     pub fn absolute_datetime(&self, year: i64, utc_offset: i64, dst_offset: i64) -> i64
         requires first_year { pos 1 ≤ℤ year }

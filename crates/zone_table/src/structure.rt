@@ -92,6 +92,10 @@ pub trait Structure {
     /// The hierarchy of the names. The part of a name before its last slash gets what follows as a time zone, and where
     /// that part has a slash, its front up to the first one gets the rest as a submodule. Entries come in byte order of
     /// their names, each once.
+    ///
+    /// # Errors
+    ///
+    /// Want of memory alone.
     fn structure(&self, alloc: Global) -> Result<TableStructure<'_>, AllocError>
         ensures value { IfOk result (λ structure. structure ≡ name_tree (names self.now)) }
         ensures in_order { IfOk result (λ structure. IsStrictlySortedBy text_cmp (each (λ entry. entry.name) structure)) };

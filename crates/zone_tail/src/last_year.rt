@@ -72,7 +72,7 @@ pub(crate) fn standard_of<S: SpanTable>(set: &S) -> i64
     set.span(entries_before(set, RULES_END + 1, 0)).utc_offset
 }
 
-/// Whether a set has an entry at or past the end of the last year, of which its string says nothing.
+/// Whether a set that can be looked up has an entry at or past the end of the last year, of which its string says nothing.
 pub fn is_outlasting<S: SpanTable>(set: &S) -> bool
     requires { IsAccepted (schedule_of (S.seen set.now)) }
     ensures { result ≡ is_outlasting (S.seen set.now) }

@@ -7,7 +7,7 @@ ghost use Rattle.tz_zone.specs.Sets.{IsAccepted, schedule_of, total_of_span};
 use tz_lookup::{FixedTimespan, SpanTable};
 use tz_zone::offset_of;
 
-/// The total of a span, in seconds east of UTC.
+/// The total of a span of a set that can be looked up, in seconds east of UTC, by the span's number from 0 on.
 pub fn total_of<S: SpanTable>(set: &S, span: usize) -> i64
     requires accepted { IsAccepted (schedule_of (S.seen set.now)) }
     requires within { span ≤ length (S.seen set.now).others }
@@ -18,7 +18,7 @@ pub fn total_of<S: SpanTable>(set: &S, span: usize) -> i64
     i64::from(offset_of(set, span).whole_seconds())
 }
 
-/// The second of an entry, by the entry's number from 0 on.
+/// The second of an entry, from 1970-01-01 00:00:00 UTC, by the entry's number from 0 on.
 pub fn entry_time<S: SpanTable>(set: &S, number: usize) -> i64
     requires { number < length (S.seen set.now).others }
     ensures { result ≡ (entry_in (S.seen set.now) number).0 }
@@ -26,7 +26,7 @@ pub fn entry_time<S: SpanTable>(set: &S, number: usize) -> i64
     set.time(number)
 }
 
-/// What an entry puts in force.
+/// What an entry puts in force, by the entry's number from 0 on.
 pub fn entry_span<S: SpanTable>(set: &S, number: usize) -> &FixedTimespan
     requires within { number < length (S.seen set.now).others }
     requires bound { number < 18446744073709551615 }

@@ -80,7 +80,11 @@ fn has_letters(name: &str) -> bool
         .all(|byte| byte.is_ascii_alphabetic())
 }
 
-/// A name, in brackets but where it has 3 to 16 letters and nothing else.
+/// Adds a name, in brackets but where it has 3 to 16 letters and nothing else.
+///
+/// # Errors
+///
+/// Want of memory alone. A part may then be added.
 #[tactic(auto, unfolding(crate::specs::Texts::name_text))]
 pub fn add_name(text: &mut String, name: &str) -> Result<(), AllocError>
     ensures { OnOk result (string_bytes text.new ≡ string_bytes text.old ++ name_text name.now) }
@@ -94,7 +98,11 @@ pub fn add_name(text: &mut String, name: &str) -> Result<(), AllocError>
     }
 }
 
-/// An offset, which is negative where it lies east of UTC.
+/// Adds an offset of so many seconds east of UTC, less than 25 hours in size, which POSIX writes as negative where it lies east.
+///
+/// # Errors
+///
+/// Want of memory alone. A part may then be added.
 #[tactic(auto, unfolding(crate::specs::Texts::offset_text))]
 pub fn add_offset(text: &mut String, east: i64) -> Result<(), AllocError>
     requires { IsTrue (can_be_written east) }
@@ -109,7 +117,11 @@ pub fn add_offset(text: &mut String, east: i64) -> Result<(), AllocError>
     }
 }
 
-/// The offset of daylight saving time, where it isn't an hour ahead of standard time.
+/// Adds the offset of daylight saving time, where it isn't an hour ahead of standard time; both in seconds east of UTC.
+///
+/// # Errors
+///
+/// Want of memory alone. A part may then be added.
 #[tactic(auto, unfolding(crate::specs::Texts::saving_text))]
 pub fn add_saving(text: &mut String, standard: i64, saving: i64) -> Result<(), AllocError>
     requires { CanWriteRule standard saving }
@@ -158,7 +170,11 @@ fn add_clock(text: &mut String, second: u32) -> Result<(), AllocError>
     }
 }
 
-/// Hours, and minutes and seconds as far as they are needed.
+/// Adds so many seconds as hours, and minutes and seconds as far as they are needed.
+///
+/// # Errors
+///
+/// Want of memory alone. A part may then be added.
 #[tactic(auto, unfolding(crate::specs::Texts::time_text))]
 pub fn add_time(text: &mut String, seconds: u32) -> Result<(), AllocError>
     ensures { OnOk result (string_bytes text.new ≡ string_bytes text.old ++ time_text seconds) }
@@ -201,7 +217,11 @@ fn add_two_digits(text: &mut String, number: u32) -> Result<(), AllocError>
     }
 }
 
-/// A number in decimal digits.
+/// Adds a number in decimal digits.
+///
+/// # Errors
+///
+/// Want of memory alone.
 pub fn add_number(text: &mut String, number: u32) -> Result<(), AllocError>
     ensures { OnOk result (string_bytes text.new ≡ string_bytes text.old ++ decimal number) }
 {
@@ -209,7 +229,11 @@ pub fn add_number(text: &mut String, number: u32) -> Result<(), AllocError>
     add(text, buffer.format(number))
 }
 
-/// One text after another.
+/// Adds one text behind another.
+///
+/// # Errors
+///
+/// Want of memory alone.
 pub fn add(text: &mut String, more: &str) -> Result<(), AllocError>
     ensures { OnOk result (string_bytes text.new ≡ string_bytes text.old ++ more.now) }
 {

@@ -27,7 +27,8 @@ pub enum Agreement {
     Always,
 }
 
-/// Where a footer begins to give the totals that a set shows for ever, each year from 2102 on being that of 400 years before.
+/// Where a footer begins to give the totals that a set, which can be looked up, shows for ever, each year from 2102 on being that of 400
+/// years before.
 pub fn first_agreement<S: SpanTable>(footer: &Footer<'_>, set: &S) -> Agreement
     requires { IsAccepted (schedule_of (S.seen set.now)) }
     ensures { Tells (footer_shown footer.now) (S.seen set.now) result }

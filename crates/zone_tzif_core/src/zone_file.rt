@@ -25,6 +25,10 @@ impl ZoneFile {
     ghost use Rattle.zone_tzif_core.specs.ZoneFiles.{changes_with, kind_numbered, kinds_kept, unnumbered, zone_seen};
 
     /// A zone of one kind at all times but for what its footer says.
+    ///
+    /// # Errors
+    ///
+    /// Want of memory alone.
     pub fn steady(alloc: Global, kind: &Record<'_>, footer: &str) -> Result<ZoneFile, AllocError>
         ensures { IfOk result (λ file. zone_seen file ≡ record { first = record_shown kind.now; rest = []; footer = footer.now }) }
     {
@@ -60,7 +64,7 @@ impl ZoneFile {
         self.kind(0)
     }
 
-    /// The kind from a change on.
+    /// The kind from a change on, by the change's place, which counts from 0 and lies within.
     pub fn kind_at(&self, place: usize) -> Record<'_>
         requires { place < length (zone_seen self.now).rest }
         ensures { record_shown result ≡ (slice_index_or (zone_seen self.now).rest place (pos 0, unnumbered)).1 }

@@ -81,7 +81,7 @@ impl ChangeTime {
 
     /// The seconds from 1970-01-01 00:00 to the date and the time as they are written, whatever
     /// clock the time is by. A missing month is January, a missing day the first, and a missing
-    /// time 0:00.
+    /// time 0:00. The end [has a day](ChangeTime::is_dated).
     pub fn to_timestamp(&self) -> i64
         requires { IsTrue (is_dated self.now) }
         ensures value { result ≡ wall self.now }
@@ -91,7 +91,7 @@ impl ChangeTime {
         86_400 * i64::from(self.day_number()) + self.end_seconds()
     }
 
-    /// The number of the year.
+    /// The year, from 1 to 9999, of an end that [has a day](ChangeTime::is_dated).
     pub fn year(&self) -> i64
         requires { IsTrue (is_dated self.now) }
         ensures { result ≡ year_number (end_year self.now) }

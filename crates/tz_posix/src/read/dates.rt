@@ -19,7 +19,7 @@ fn weekday(text: &str) -> Option<(Date, &str)>
     Some((Date::M { m, n, d }, rest))
 }
 
-/// A date, and the rest.
+/// The date at the front of a text, as `J60`, `60` or `M3.2.0`, and the rest; none where no such date is at the front.
 #[tactic(auto, unfolding(crate::specs::Reading::date_at))]
 pub fn date(text: &str) -> Option<(Date, &str)>
     ensures { read_as (λ date. date) result ≡ date_at text.now }

@@ -35,7 +35,7 @@ fn enclosed(text: &str) -> Option<(&str, &str)>
     Some((name, after_mark('>', rest)?))
 }
 
-/// A name, without its brackets, and the rest.
+/// The name at the front of a text, without its brackets, and the rest; none where there is no such name.
 #[tactic(auto, unfolding(crate::specs::Reading::name_at))]
 pub fn name(text: &str) -> Option<(&str, &str)>
     ensures { read_as (λ name. name.now) result ≡ name_at text.now }

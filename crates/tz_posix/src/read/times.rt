@@ -48,7 +48,7 @@ fn sign(text: &str) -> (bool, &str)
     }
 }
 
-/// An offset at the front, and the rest.
+/// The offset at the front of a text, as `5`, `-3:30` or `+4:01:02`, and the rest; none where there is none. Its range isn't tested.
 #[tactic(auto, unfolding(crate::specs::Reading::offset_at))]
 pub fn offset(text: &str) -> Option<(Offset, &str)>
     ensures { read_as (λ o. o) result ≡ offset_at text.now }
