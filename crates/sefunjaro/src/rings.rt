@@ -58,7 +58,7 @@ impl OpenZone {
     ghost use Rattle.std.specs.Prelude.{MatchResult};
     ghost use Rattle.sefunjaro.specs.{Answered.{AreRings}, Causes.{IsAlarmCause}, Zones.{total_in}};
 
-    /// The same of a zone of a source.
+    /// As [`AnyZone::alarms`], of a zone of a source.
     ///
     /// # Errors
     ///
@@ -84,7 +84,7 @@ impl FileZone {
     ghost use Rattle.tz_tzif.specs.InForce.{told_total_at};
     ghost use Rattle.sefunjaro.specs.{Answered.{AreRings}, Causes.{IsAlarmCause}, Files.{file_value, SaysOf}};
 
-    /// The same of a zone of a file or of a string.
+    /// As [`AnyZone::alarms`], of a zone of a file or of a string.
     ///
     /// # Errors
     ///

@@ -48,7 +48,7 @@ pub fn compile_zone(alloc: Global, table: &Table, name: &str) -> Result<FixedTim
     compile_zone_over(alloc, table, name, MOST_YEARS)
 }
 
-/// The same over so many years from 1800 on, 1,000 at most.
+/// As [`compile_zone`], over so many years from 1800 on, 1,000 at most.
 ///
 /// # Errors
 ///

@@ -358,7 +358,7 @@ pub fn local_spans<T: SpanTable>(
     spans_under::<T, Brand>(set, orderly, date_time, low, high, Blank::new(1))
 }
 
-/// The same, with a step for each comparison of the search on an orderly set.
+/// As [`local_spans`], with a step for each comparison of the search on an orderly set.
 pub fn local_spans_counted<T: SpanTable, L: Ledger>(
     set: &T,
     orderly: bool,

@@ -58,7 +58,7 @@ pub fn list_lines(
     }
 }
 
-/// The same of whatever gives spans by number, as a `CompactSet` does.
+/// As [`list_lines`], of whatever gives spans by number, as a `CompactSet` does.
 ///
 /// # Errors
 ///

@@ -32,7 +32,7 @@ impl Kind {
         Kind::More
     }
 
-    /// Its word.
+    /// The kind's word: `one`, `gap`, `fold` or `more`.
     pub fn text(self) -> &'static [u8]
         ensures { result.now ≡ kind_text self }
     {

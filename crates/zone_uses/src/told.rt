@@ -26,7 +26,7 @@ pub fn offset_in_source(
     Ok(zone.offset_at(at))
 }
 
-/// The same, where what is refused goes on as its text, as a program ends with it.
+/// As [`offset_in_source`], but what is refused goes on as its text, as a program ends with it.
 ///
 /// # Errors
 ///
