@@ -4,6 +4,10 @@ use Rattle.std.specs.Prelude.{ℕ, ◌+◌, ◌*◌, ◌/◌, ◌%◌, ◌<◌}
 abbrev pub nanos_per_day : ℕ
 nanos_per_day = 86400 * 1000000000
 
+-- the nanoseconds from midnight of a time of day
+abbrev pub IsTimeOfDay : ℕ → Type 0
+IsTimeOfDay t = t < nanos_per_day
+
 unfoldable pub hour_of : ℕ → ℕ
 hour_of t = t / (3600 * 1000000000)
 

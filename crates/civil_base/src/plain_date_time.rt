@@ -1,4 +1,6 @@
 //! Dates with a time of day, with no offset.
+#![tactic(auto, using(crate::specs::RangeLaws::ranges))]
+
 ghost use Rattle.std.specs.Prelude.{◌≡◌, ◌↔◌, ◌+◌, ◌*◌, ◌<◌, pos, neg_ℤ, ◌+ℤ◌, ◌*ℤ◌, ◌≤◌, is_some, IfSome, unsigned_abs};
 ghost use Rattle.basics.specs.Dates.{year_of};
 ghost use Rattle.civil_base.specs.{Clock.{nanos_per_day}, Instants.{local_at, instant_at}, Layout.{day_part, time_part}, Ranges.{IsYear, is_in_years, IsInYears, IsOffset, far_seconds}};
@@ -26,9 +28,6 @@ pub struct PlainDateTime {
     nanos: i128,
 }
 
-/// The name that `time` had for it.
-pub type PrimitiveDateTime = PlainDateTime;
-
 impl Model for PlainDateTime {
     ghost use Rattle.std.specs.Prelude.{ℤ};
     ghost use Rattle.civil_base.specs.Ranges.{IsInYears};
@@ -42,7 +41,6 @@ impl Model for PlainDateTime {
     ghost inverse = { λ nanos. record { nanos = nanos } };
 }
 
-#[tactic(auto, using(crate::specs::RangeLaws::ranges))]
 impl PlainDateTime {
     ghost use Rattle.civil_base.specs.DateTimes.{local_of, offset_of, at_offset};
 
@@ -157,3 +155,6 @@ fn is_in_years(nanos: i128) -> bool
 {
     FIRST <= nanos && nanos <= LAST
 }
+
+/// The name that `time` had for it.
+pub type PrimitiveDateTime = PlainDateTime;

@@ -15,14 +15,14 @@ pub struct Time {
 }
 
 impl Model for Time {
-    ghost use Rattle.std.specs.Prelude.{ℕ, ◌<◌};
-    ghost use Rattle.civil_base.specs.Clock.{nanos_per_day};
+    ghost use Rattle.std.specs.Prelude.{ℕ};
+    ghost use Rattle.civil_base.specs.Clock.{IsTimeOfDay};
 
     ghost Value = { ℕ };
 
     ghost view = { λ time. time.nanos };
 
-    ghost invariant = { λ time. time.nanos < nanos_per_day };
+    ghost invariant = { λ time. IsTimeOfDay time.nanos };
 
     ghost inverse = { λ nanos. record { nanos = nanos } };
 }

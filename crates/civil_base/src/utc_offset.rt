@@ -1,4 +1,6 @@
 //! Offsets from UTC.
+#![tactic(auto, using(crate::specs::RangeLaws::ranges))]
+
 ghost use Rattle.std.specs.Prelude.{◌≡◌, ◌↔◌, pos, ◌*ℤ◌, ◌<ℤ◌, ◌<◌, ◌^◌, IsTrue, IsOk, IfOk, is_ok};
 ghost use Rattle.civil_base.specs.{Ranges.{is_offset, IsOffset}, Offsets.{offset_at, signed_by, hours_in, minutes_in, seconds_in, IsOffsetParts}, Offsets.{is_first_negative as leads_negative}};
 
@@ -28,7 +30,6 @@ impl Model for UtcOffset {
     ghost inverse = { λ seconds. record { seconds = seconds } };
 }
 
-#[tactic(auto, using(crate::specs::RangeLaws::ranges))]
 impl UtcOffset {
     /// No offset.
     pub const UTC: UtcOffset = UtcOffset { seconds: 0 };

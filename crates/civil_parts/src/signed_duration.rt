@@ -14,9 +14,6 @@ pub struct SignedDuration {
     nanos: i128,
 }
 
-/// The name that `time` had for it.
-pub type Duration = SignedDuration;
-
 impl Model for SignedDuration {
     ghost use Rattle.std.specs.Prelude.{ℤ};
     ghost use Rattle.civil_parts.specs.Durations.{IsDuration};
@@ -159,3 +156,6 @@ impl TryFrom<StdDuration> for SignedDuration {
         SignedDuration::from_whole_nanoseconds(length.nanos() as i128).ok_or(ConversionRange)
     }
 }
+
+/// The name that `time` had for it.
+pub type Duration = SignedDuration;

@@ -8,7 +8,7 @@ const NANOS_PER_SECOND: u128 = units::NANOS_PER_SECOND as u128;
 
 /// A length of time of whole nanoseconds, less than 2^64 seconds: the `Duration` of Rust's standard library. Contracts
 /// see the nanoseconds.
-#[derive(Clone, Copy, Debug, PartialEq, Eq)]
+#[derive(Clone, Copy, Debug, PartialEq, Eq, PartialOrd, Ord, Hash)]
 pub struct StdDuration {
     nanos: u128,
 }
