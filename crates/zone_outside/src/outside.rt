@@ -98,9 +98,12 @@ pub enum ReadEnd {
 }
 
 impl From<AllocError> for ReadEnd {
-    ghost from_gives = { λ _ e. e ≡ NoMemory };
+    ghost use Rattle.std.specs.Prelude.{◌≡◌};
+    ghost use Rattle.zone_outside.specs.declared.outside.ReadEnd.TheVariants.{NoMemory};
 
-    fn from(_: AllocError) -> Self {
+    ghost from_gives = { λ _ fault. fault ≡ NoMemory };
+
+    fn from(_: AllocError) -> ReadEnd {
         ReadEnd::NoMemory
     }
 }
