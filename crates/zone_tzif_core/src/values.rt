@@ -59,17 +59,23 @@ pub enum ReadFault {
 }
 
 impl From<AllocError> for ReadFault {
+    ghost use Rattle.std.specs.Prelude.{◌≡◌};
+    ghost use Rattle.zone_tzif_core.specs.declared.values.ReadFault.TheVariants.{NoMemory};
+
     ghost from_gives = { λ _ fault. fault ≡ NoMemory };
 
-    fn from(_error: AllocError) -> ReadFault {
+    fn from(_: AllocError) -> ReadFault {
         ReadFault::NoMemory
     }
 }
 
 impl<T: Drop> From<AllocFailed<T>> for ReadFault {
+    ghost use Rattle.std.specs.Prelude.{◌≡◌};
+    ghost use Rattle.zone_tzif_core.specs.declared.values.ReadFault.TheVariants.{NoMemory};
+
     ghost from_gives = { λ _ fault. fault ≡ NoMemory };
 
-    fn from(_error: AllocFailed<T>) -> ReadFault {
+    fn from(_: AllocFailed<T>) -> ReadFault {
         ReadFault::NoMemory
     }
 }
@@ -92,9 +98,12 @@ pub enum WriteFault {
 }
 
 impl From<AllocError> for WriteFault {
-    ghost from_gives = { λ _ fault. fault ≡ WriteNoMemory };
+    ghost use Rattle.std.specs.Prelude.{◌≡◌};
+    ghost use Rattle.zone_tzif_core.specs.declared.values.WriteFault.TheVariants.{NoMemory};
 
-    fn from(_error: AllocError) -> WriteFault {
+    ghost from_gives = { λ _ fault. fault ≡ NoMemory };
+
+    fn from(_: AllocError) -> WriteFault {
         WriteFault::NoMemory
     }
 }
