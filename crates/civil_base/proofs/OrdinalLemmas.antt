@@ -1,7 +1,7 @@
 -- Days of the year.
 use Rattle.std.proofs.Common.{◌≡◌, arith, ℕ, ℤ, pos, ◌+ℤ◌, ◌-ℤ◌, to_z, of_z, w32}
 use Rattle.basics.specs.{Days.{day}, Dates.{year_of, month_of, day_of}, DateLaws.{day-into_year, day-last_of_year, days_into_year-bound, last_date}, MonthLaws.{days_in_year-bounds}, SignedLaws.{signed, signed_casts}}
-use Rattle.civil_base.specs.{Ordinals.{IsOrdinal, ordinal_day, ordinal_of}, Ranges.{IsYear, IsDay}, DayLaws.{date_of-day}, DayRangeLaws.{counted, date-inside, new_year}}
+use Rattle.civil_base.specs.{Ordinals.{IsOrdinal, ordinal_day, ordinal_of}, Ranges.{IsYear, IsDay}, DayLaws.{date_of-day}, DayRangeLaws.{counted, date-inside, day-counted, new_year}}
 
 -- a day is the one of its year that its place says
 pub ordinal_day-of : (k : ℤ) → IsDay k → ordinal_day (year_of k) (ordinal_of k) ≡ k
@@ -42,3 +42,7 @@ place_is k y first h e f =
     let begin = new_year-inside (year_of k) (date_of-day k h).year in
     let start : first ≡ day (year_of k) 1 1 = rw (← e) f in
     omega (arith, signed_casts, days_in_year-bounds (year_of k))
+
+-- 32 bits hold the number of a day
+pub kept-day : (k : ℤ) → IsDay k → to_z w32 (of_z w32 k) ≡ k
+kept-day k inside = omega (arith, signed_casts, day-counted k inside)

@@ -2,7 +2,7 @@
 use Rattle.std.proofs.Common.{◌≡◌, refl, arith, ℕ, zero, suc, ◌+◌, ◌*◌, ◌/◌, ◌%◌, ◌≤◌, ◌<◌, nat_lt, Bool, true, false, nat_eq, ◌&&◌, List, [], ◌∷◌, ◌++◌, length, get_or, sym, ap, ◌∙◌, pos, unsigned_abs, int_lt, drop, Option, Some, None, Result, Ok, Err}
 use Rattle.std.proofs.lemmas.Bool.Decides.{nat_tests}
 use Rattle.std.specs.{Prelude.{IsOk, IfOk, IfSome}, Result.{result_ok}}
-use Rattle.civil_base.specs.{Layout.{digit, two_digits, four_digits, nine_digits}, Offsets.{signed_by}}
+use Rattle.civil_base.specs.{DigitLaws.{digits-halves}, Layout.{digit, two_digits, four_digits, nine_digits}, Offsets.{signed_by}}
 
 -- so many bytes from a place on
 abbrev items : ℕ → ℕ → List ℕ → List ℕ
@@ -73,6 +73,15 @@ byte-is a b h = grind (arith, nat_tests)
 
 pub below-halves : (n : ℕ) → n < 10000 → (n / 100 < 100) × (n % 100 < 100)
 below-halves n small = (omega arith, omega arith)
+
+-- as two digits at each end tell of four
+pub told-halves : (front back n a b c d : ℕ) → n < 10000
+    → ((k : ℕ) → k < 100 → a ≡ digit k 10 → b ≡ digit k 1 → front ≡ k) → ((k : ℕ) → k < 100 → c ≡ digit k 10 → d ≡ digit k 1 → back ≡ k)
+    → a ≡ digit n 1000 → b ≡ digit n 100 → c ≡ digit n 10 → d ≡ digit n 1 → (front ≡ n / 100) × (back ≡ n % 100)
+told-halves front back n a b c d small first second t h e o =
+    let split = digits-halves n in
+    let below = below-halves n small in
+    (first (n / 100) below.0 (t ∙ split.0) (h ∙ split.1), second (n % 100) below.1 (e ∙ split.2) (o ∙ split.3))
 
 pub joined-halves : (n front back : ℕ) → front ≡ n / 100 → back ≡ n % 100 → 100 * front + back ≡ n
 joined-halves n front back is rest = omega arith

@@ -73,6 +73,10 @@ value-is times table byte is = by_first (nat_lt byte 48) refl (eqb-true _ _ is)
     by_first true below same = record { digit = λ d small at. absurd (omega (arith, at, ltb-true byte 48 below)); other = inl same }
     by_first false above same = by_second (nat_lt byte 58) refl (ltb-false byte 48 above) same
 
+-- as of every byte of a table
+value-at : (times : ℕ) (table : List ℕ) (byte : ℕ) → passes_below (is_value times table) 256 ≡ true → byte < 256 → IsValue times byte (get_or table byte 0)
+value-at times table byte all small = value-is times table byte (passes_at (is_value times table) 256 byte all small)
+
 -- what is known of ten times a value
 pub record IsTens (byte value : ℕ) : Type 0 where
   pub digit : (d : ℕ) → d < 10 → byte ≡ 48 + d → value ≡ 10 * d
@@ -88,22 +92,16 @@ pub record IsOnes (byte value : ℕ) : Type 0 where
   pub most : value ≤ 100
 
 pub tens-value : (byte : ℕ) → byte < 256 → IsTens byte (get_or tens byte 0)
-tens-value byte small = by_case (get_or tens byte 0) is.digit is.other
+tens-value byte small = let is = value-at 10 tens byte all_tens small in by_case (get_or tens byte 0) is.digit is.other
   where
-    is : IsValue 10 byte (get_or tens byte 0)
-    is = value-is 10 tens byte (passes_at (is_value 10 tens) 256 byte all_tens small)
-
     by_case : (value : ℕ) → ((d : ℕ) → d < 10 → byte ≡ 48 + d → value ≡ 10 * d)
         → value ≡ 100 ⊎ ((48 ≤ byte) × (byte < 58) × (value ≡ 10 * (byte - 48))) → IsTens byte value
     by_case value digit (inl e) = record { digit = digit; other = λ few. absurd (omega (arith, few, e)); whole = omega (arith, e); most = omega (arith, e) }
     by_case value digit (inr (a, b, e)) = record { digit = digit; other = λ few. omega (arith, a, e); whole = omega (arith, e); most = omega (arith, a, b, e) }
 
 pub ones-value : (byte : ℕ) → byte < 256 → IsOnes byte (get_or ones byte 0)
-ones-value byte small = by_case (get_or ones byte 0) is.digit is.other
+ones-value byte small = let is = value-at 1 ones byte all_ones small in by_case (get_or ones byte 0) is.digit is.other
   where
-    is : IsValue 1 byte (get_or ones byte 0)
-    is = value-is 1 ones byte (passes_at (is_value 1 ones) 256 byte all_ones small)
-
     by_case : (value : ℕ) → ((d : ℕ) → d < 10 → byte ≡ 48 + d → value ≡ 1 * d)
         → value ≡ 100 ⊎ ((48 ≤ byte) × (byte < 58) × (value ≡ 1 * (byte - 48))) → IsOnes byte value
     by_case value digit (inl e) = record {

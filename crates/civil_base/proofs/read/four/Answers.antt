@@ -1,14 +1,11 @@
-use Rattle.std.proofs.{Common.{arith, ◌<◌, ◌/◌, ◌%◌, ◌∙◌}, lemmas.Bool.Decides.{nat_tests}}
-use Rattle.civil_base.{specs.DigitLaws.{digits-halves}, proofs.ReadLemmas.{not-both, below-halves, joined-halves}}
+use Rattle.std.proofs.{Common.{arith, ◌<◌, ◌∙◌}, lemmas.Bool.Decides.{nat_tests}}
+use Rattle.civil_base.proofs.ReadLemmas.{not-both, below-halves, joined-halves, told-halves}
 use Rattle.civil_base.proofs.read.four.Goals as goal
 
 pub returns-then-are_digits-clause-value : goal.returns-then-are_digits-clause-value
 returns-then-are_digits-clause-value c = λ n small t h e o.
-    let split = digits-halves n in
-    let below = below-halves n small in
-    let front = c.two-front.ensures.value (n / 100) below.0 (t ∙ split.0) (h ∙ split.1) in
-    let back = c.two-back.ensures.value (n % 100) below.1 (e ∙ split.2) (o ∙ split.3) in
-    joined-halves n _ _ (c.from.ensures ∙ front) (c.from-then-are_digits.ensures ∙ back)
+    let halves = told-halves _ _ n _ _ _ _ small c.two-front.ensures.value c.two-back.ensures.value t h e o in
+    joined-halves n _ _ (c.from.ensures ∙ halves.0) (c.from-then-are_digits.ensures ∙ halves.1)
 
 pub returns-then-are_digits-clause-spelled : goal.returns-then-are_digits-clause-spelled
 returns-then-are_digits-clause-spelled c = λ small.
@@ -20,8 +17,6 @@ returns-then-are_digits-clause-spelled c = λ small.
 
 pub returns-else-are_digits-clause-value : goal.returns-else-are_digits-clause-value
 returns-else-are_digits-clause-value c = λ n small t h e o.
-    let split = digits-halves n in
+    let halves = told-halves _ _ n _ _ _ _ small c.two-front.ensures.value c.two-back.ensures.value t h e o in
     let below = below-halves n small in
-    let front = c.two-front.ensures.value (n / 100) below.0 (t ∙ split.0) (h ∙ split.1) in
-    let back = c.two-back.ensures.value (n % 100) below.1 (e ∙ split.2) (o ∙ split.3) in
-    absurd (not-both c.two-front.result c.two-back.result 100 (rw front below.0) (rw back below.1) c.if-are_digits.false)
+    absurd (not-both c.two-front.result c.two-back.result 100 (rw halves.0 below.0) (rw halves.1 below.1) c.if-are_digits.false)

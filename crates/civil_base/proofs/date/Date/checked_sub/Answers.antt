@@ -1,15 +1,13 @@
-use Rattle.std.proofs.Common.{rules, arith, FitsSigned, to_z-of_z, ◌∙◌, w32, ◌≡◌, ◌≤◌, ℤ, ◌-ℤ◌, to_z, of_z, w64, unsigned_abs}
+use Rattle.std.proofs.Common.{arith, w32, ◌≡◌, ◌≤◌, ℤ, ◌-ℤ◌, to_z, of_z, w64, unsigned_abs}
 use Rattle.basics.specs.SignedLaws.{signed_casts, one_sided}
 use Rattle.civil_base.specs.Ranges.{IsDay}
 use Rattle.civil_base.proofs.date.Date.checked_sub.Goals as goal
 
-moved : (k a d : ℤ) → IsDay k → a ≡ k → unsigned_abs d ≤ 106751991167300
-    → to_z w64 (of_z w64 (to_z w64 (of_z w64 a) -ℤ to_z w64 (of_z w64 d))) ≡ k -ℤ d
-moved k a d h e small = omega (arith, signed_casts, one_sided d)
+moved : (k a d x y : ℤ) → IsDay k → a ≡ to_z w32 (of_z w32 k) → unsigned_abs d ≤ 106751991167300 → k ≡ x → d ≡ y
+    → to_z w64 (of_z w64 (to_z w64 (of_z w64 a) -ℤ to_z w64 (of_z w64 d))) ≡ x -ℤ y
+moved k a d x y h e small is by = omega (arith, signed_casts, one_sided d)
 
 pub returns-clause-has : goal.returns-clause-has
 returns-clause-has c =
-    let fits : FitsSigned w32 c.day_number.result = search rules in
-    let sum = moved c.day_number.result c.from.result c.whole_days.result c.day_number.ensures.bound (c.from.ensures
-    ∙ to_z-of_z fits) c.whole_days.ensures.bound in
-    rw (sum, c.day_number.ensures.value, c.whole_days.ensures.value) at c.with_day.ensures.has
+    let day = c.day_number.ensures in
+    rw (moved _ _ _ _ _ day.bound c.from.ensures c.whole_days.ensures.bound day.value c.whole_days.ensures.value) at c.with_day.ensures.has
