@@ -20,19 +20,12 @@ short_month_names =
     codes "Jan" ∷ codes "Feb" ∷ codes "Mar" ∷ codes "Apr" ∷ codes "May" ∷ codes "Jun" ∷ codes "Jul" ∷ codes "Aug"
     ∷ codes "Sep" ∷ codes "Oct" ∷ codes "Nov" ∷ codes "Dec" ∷ []
 
-full_months : map month_named month_names ≡ map Some months
+-- in full and in short, of other lengths, and in letters of either case
+named_months : (map month_named month_names ≡ map Some months) × (map month_named short_month_names ≡ map Some months)
+    × (map month_named (codes "" ∷ codes "Ja" ∷ codes "Sept" ∷ codes "Febuary" ∷ codes "dECEMBER" ∷ codes "JUL" ∷ [])
+    ≡ None ∷ None ∷ None ∷ None ∷ Some December ∷ Some July ∷ [])
 unfolding month_named
-full_months = refl
-
-short_months : map month_named short_month_names ≡ map Some months
-unfolding month_named
-short_months = refl
-
--- other lengths, and letters in either case
-other_months : map month_named (codes "" ∷ codes "Ja" ∷ codes "Sept" ∷ codes "Febuary" ∷ codes "dECEMBER" ∷ codes "JUL" ∷ [])
-    ≡ None ∷ None ∷ None ∷ None ∷ Some December ∷ Some July ∷ []
-unfolding month_named
-other_months = refl
+named_months = (refl, refl, refl)
 
 numbers_of_months : map month_number months ≡ 1 ∷ 2 ∷ 3 ∷ 4 ∷ 5 ∷ 6 ∷ 7 ∷ 8 ∷ 9 ∷ 10 ∷ 11 ∷ 12 ∷ []
 numbers_of_months = refl
@@ -54,18 +47,11 @@ weekday_names =
 abbrev short_weekday_names : List (List ℕ)
 short_weekday_names = codes "Sun" ∷ codes "Mon" ∷ codes "Tue" ∷ codes "Wed" ∷ codes "Thu" ∷ codes "Fri" ∷ codes "Sat" ∷ []
 
-full_weekdays : map weekday_named weekday_names ≡ map Some weekdays
+named_weekdays : (map weekday_named weekday_names ≡ map Some weekdays) × (map weekday_named short_weekday_names ≡ map Some weekdays)
+    × (map weekday_named (codes "" ∷ codes "Su" ∷ codes "Thur" ∷ codes "Tus" ∷ codes "sATURDAY" ∷ codes "WED" ∷ [])
+    ≡ None ∷ None ∷ None ∷ None ∷ Some Saturday ∷ Some Wednesday ∷ [])
 unfolding weekday_named
-full_weekdays = refl
-
-short_weekdays : map weekday_named short_weekday_names ≡ map Some weekdays
-unfolding weekday_named
-short_weekdays = refl
-
-other_weekdays : map weekday_named (codes "" ∷ codes "Su" ∷ codes "Thur" ∷ codes "Tus" ∷ codes "sATURDAY" ∷ codes "WED" ∷ [])
-    ≡ None ∷ None ∷ None ∷ None ∷ Some Saturday ∷ Some Wednesday ∷ []
-unfolding weekday_named
-other_weekdays = refl
+named_weekdays = (refl, refl, refl)
 
 numbers_of_weekdays : map weekday_number weekdays ≡ 0 ∷ 1 ∷ 2 ∷ 3 ∷ 4 ∷ 5 ∷ 6 ∷ []
 numbers_of_weekdays = refl
