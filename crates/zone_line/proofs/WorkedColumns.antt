@@ -1,6 +1,6 @@
 -- The texts of columns by the groups that take them, and the values of lines by the texts of their columns, at worked rows. No pattern
 -- is computed: each group is given its part.
-use Rattle.std.{proofs.Common.{◌≡◌, ℕ, List, [], ◌∷◌, map, Option, Some, None, Ok, Err, refl, pos, negsuc}, specs.Prelude.{bytes_eq, codes, if◌then◌else◌}}
+use Rattle.std.{proofs.Common.{◌≡◌, ◌==◌, ℕ, List, [], ◌∷◌, get_or, map, Option, Some, None, Ok, Err, refl, pos, negsuc}, specs.Prelude.{bytes_eq, codes, if◌then◌else◌}, specs.List.{slice_split}}
 use Rattle.zone_values.specs.{Faults.{refused}, Months.{month_named}, Seconds.{with_type}, Values.{one_off, multiple, InfoValue, space, zone, continuation, rule, link}, Years.{year_named}, declared.change.ChangeTime.TheVariants.{UntilMonth}}
 use Rattle.zone_values.specs.declared.{day.DaySpec.TheVariants.{Ordinal}, fault.FaultKind.TheVariants.{FailedYearParse, FailedMonthParse, InvalidLineType, TypeColumnContainedNonHyphen, InvalidDaySpec, InvalidTimeSpecAndType, NonWallClockInTimeSpec}}
 use Rattle.zone_values.specs.declared.{month.Month.TheVariants.{March}, time.TimeSpec.TheVariants.{Hours, HoursMinutes}, time.TimeType.TheVariants.{Wall}, year.Year.TheVariants.{Number}}
@@ -19,17 +19,24 @@ its_name name = Some name
 abbrev all_but : List ℕ → List ℕ → Option (List ℕ)
 all_but missing name = if bytes_eq name missing then None else Some name
 
-columns_of_a_rule : rule_columns_of its_name ≡ Some (record {
-  name = codes "name";
-  from = codes "from";
-  to = codes "to";
-  kind = codes "type";
-  month = codes "in";
-  on = codes "on";
-  at = codes "at";
-  save = codes "save";
-  letters = codes "letters";
-})
+-- a column of a line of columns, with a bar between them
+abbrev column : ℕ → List ℕ → List ℕ
+column place line = get_or (slice_split (λ c. c == 124) line) place []
+
+abbrev rule_row : List ℕ → RuleTexts
+rule_row line = record {
+  name = column 0 line;
+  from = column 1 line;
+  to = column 2 line;
+  kind = column 3 line;
+  month = column 4 line;
+  on = column 5 line;
+  at = column 6 line;
+  save = column 7 line;
+  letters = column 8 line;
+}
+
+columns_of_a_rule : rule_columns_of its_name ≡ Some (rule_row (codes "name|from|to|type|in|on|at|save|letters"))
 unfolding rule_columns_of
 columns_of_a_rule = refl
 
@@ -37,16 +44,19 @@ columns_of_a_link : link_columns_of its_name ≡ Some (record { target = codes "
 unfolding link_columns_of
 columns_of_a_link = refl
 
-abbrev info_names : InfoTexts
-info_names = record {
-  gmtoff = codes "gmtoff";
-  rules = codes "rulessave";
-  format = codes "format";
-  year = Some (codes "year");
-  month = Some (codes "month");
-  day = Some (codes "day");
-  time = Some (codes "time");
+abbrev info_row : List ℕ → InfoTexts
+info_row line = record {
+  gmtoff = column 0 line;
+  rules = column 1 line;
+  format = column 2 line;
+  year = Some (column 3 line);
+  month = Some (column 4 line);
+  day = Some (column 5 line);
+  time = Some (column 6 line);
 }
+
+abbrev info_names : InfoTexts
+info_names = info_row (codes "gmtoff|rulessave|format|year|month|day|time")
 
 columns_of_a_zone : zone_columns_of its_name ≡ Some (record { name = codes "name"; info = info_names })
 unfolding zone_columns_of info_columns_of
@@ -85,17 +95,7 @@ parts_of_times = refl
 
 -- `Rule US 2007 2010 - Mar 8 2 1 D`
 abbrev rule_texts : RuleTexts
-rule_texts = record {
-  name = codes "US";
-  from = codes "2007";
-  to = codes "2010";
-  kind = codes "-";
-  month = codes "Mar";
-  on = codes "8";
-  at = codes "2";
-  save = codes "1";
-  letters = codes "D";
-}
+rule_texts = rule_row (codes "US|2007|2010|-|Mar|8|2|1|D")
 
 -- the time of day comes of AT, the amount of time of SAVE
 a_rule : value_of_kind (codes "the line") (kind.rule rule_texts) ≡ Ok (rule (record {
@@ -123,15 +123,7 @@ refused_rules = refl
 
 -- `-5 US E%sT 2007 Mar`
 abbrev info_texts : InfoTexts
-info_texts = record {
-  gmtoff = codes "-5";
-  rules = codes "US";
-  format = codes "E%sT";
-  year = Some (codes "2007");
-  month = Some (codes "Mar");
-  day = None;
-  time = None;
-}
+info_texts = record (info_row (codes "-5|US|E%sT|2007|Mar||")) { day = None; time = None }
 
 abbrev info : InfoValue
 info = record {
