@@ -1,5 +1,5 @@
 -- What is due of an instant that a zone shows.
-use Rattle.std.{proofs.Common.{◌≡◌, ℕ, ℤ, List, Bool, true, false, not, cond, ap, sym, ◌∙◌, refl}, specs.Prelude.{Ok, Err}}
+use Rattle.std.{proofs.Common.{◌≡◌, ℕ, ℤ, List, Bool, true, false, not, cond, ap, subst, sym, ◌∙◌, refl}, specs.Prelude.{Ok, Err}}
 use Rattle.civil_base.specs.{DateTimes.{instant, local_of, offset_of}, Instants.{local_at}, Ranges.{is_in_years}, declared.offset_date_time.OffsetDateTime.{OffsetDateTime}}
 use Rattle.zone_moments.specs.declared.answer_form.AnswerForm.{AnswerForm, TheVariants.{People, Rfc3339, Epoch, Json}}
 use Rattle.zone_replies.specs.{Faults.{Due}, Instants.{at_due, instant_text, is_untold, kind_at, shown_due, IsKindFor}, Views.{ZoneView}, declared.fault.ReplyFault.TheVariants.{OutOfYears, Untold}, declared.kind.Kind.{Kind}}
@@ -43,3 +43,7 @@ at_is form view name kind t d at is for =
     ap (λ text. decided (is_in_years (local_at t (view.total t))) (is_untold view (local_at t (view.total t))) text)
     (same_kind form view name kind (kind_at view (local_of d)) t (view.total t) for)
     ∙ ap (λ x. shown_due form view name (kind_at view x) t) (clock_is view t d at is)
+
+pub kind_is : (form : AnswerForm) (view : ZoneView) (name : List ℕ) (kind : Kind) (t : ℤ) (d : OffsetDateTime) (local : ℤ) → instant d ≡ t → offset_of d ≡ view.total t
+    → local ≡ local_of d → IsKindFor form kind (kind_at view local) → shown_due form view name kind t ≡ at_due form view name t
+kind_is form view name kind t d local at is same kinds = at_is form view name kind t d at is (subst (λ x. IsKindFor form kind (kind_at view x)) same kinds)

@@ -1,8 +1,10 @@
 -- The lines of changes.
-use Rattle.std.{proofs.Common.{◌≡◌, ℕ, ℤ, pos, ◌-ℤ◌, List, [], ◌∷◌, ◌++◌, Bool, ◌&&◌, true, false, cond, refl, ap, sym, ◌∙◌}, specs.Prelude.{Ok, Err}}
-use Rattle.civil_base.specs.Instants.{nanos_of}
+use borrow.Author.Rules.{to_z-of_z_to}
+use Rattle.std.{proofs.Common.{◌≡◌, ℕ, ℤ, pos, ◌-ℤ◌, to_z, of_z, w64, SFits, List, [], ◌∷◌, ◌++◌, Bool, ◌&&◌, true, false, cond, refl, ap, sym, ◌∙◌}, specs.Prelude.{Ok, Err}}
+use Rattle.civil_base.specs.{DateTimes.{instant, local_of, offset_of}, Instants.{nanos_of}, declared.offset_date_time.OffsetDateTime.{OffsetDateTime}}
 use Rattle.zone_moments.specs.declared.answer_form.AnswerForm.{AnswerForm}
 use Rattle.zone_replies.specs.{Faults.{Due, each_due}, Instants.{is_untold}, Lists.{change_due, change_text, list_due, second_from}, Skips.{has_dates}, Views.{InForce, ZoneView}, declared.fault.ReplyFault.TheVariants.{OutOfYears, Untold}}
+use Rattle.zone_replies.proofs.LocalLemmas.{at_utc}
 
 abbrev line_if : Bool → List ℕ → Due
 line_if has text = cond has (Ok (text ++ 10 ∷ [])) (Err OutOfYears)
@@ -36,6 +38,11 @@ new_out form view name second new from out =
     let text = change_text form name (nanos_of second) (view.force (second -ℤ pos 1)) (view.force second) in
     let before = has_dates second (view.force (second -ℤ pos 1)).offset in
     (λ i. line_if (before && has_dates second (sym from i).offset) text) ∙ (λ i. line_if (before && sym out i) text) ∙ no_line before text
+
+-- the second from which a window at UTC goes on, as 64 bits hold it
+pub second_is : (value : OffsetDateTime) (x second : ℤ) → local_of value ≡ x → offset_of value ≡ pos 0 → SFits w64 second
+    → second ≡ second_from (instant value) → to_z w64 (of_z w64 second) ≡ second_from x
+second_is value x second local offset fits is = to_z-of_z_to w64 second _ fits (is ∙ ap second_from (at_utc value x local offset))
 
 -- the lines of a window
 pub list_is : (form : AnswerForm) (view : ZoneView) (name : List ℕ) (from to : ℤ) (changes : List ℤ) → is_untold view to ≡ false

@@ -1,20 +1,12 @@
-use Rattle.std.proofs.{Common.{◌≡◌, ◌++◌, to_z, of_z, to_z-of_z, FitsSigned, w64, rules, ap, sym, ◌∙◌}, lemmas.Result.{err_from_is_err_and}}
-use Rattle.zone_replies.{specs.Faults.{behind}, specs.Lists.{second_from}, specs.DueLaws.{moved, whole}, proofs.ListLemmas.{list_is}, proofs.LocalLemmas.{at_utc}}
+use Rattle.std.proofs.{Common.{◌++◌, rules, ap, sym, ◌∙◌}, lemmas.Result.{err_from_is_err_and}}
+use Rattle.zone_replies.{specs.Faults.{behind}, specs.DueLaws.{moved, whole}, proofs.ListLemmas.{list_is, second_is}}
 use Rattle.zone_replies.proofs.changes.add_list.Goals as goal
 
 pub returns-in_err-add_lines-clause-cause : goal.returns-in_err-add_lines-clause-cause
 returns-in_err-add_lines-clause-cause g c =
     let view = g.Z.ReplyZone.view c.args.zone.now in
-    let a = c.second_from-first.result in
-    let b = c.second_from.result in
-    let fits_a : FitsSigned w64 a = search rules in
-    let fits_b : FitsSigned w64 b = search rules in
-    let from : to_z w64 (of_z w64 a) ≡ second_from c.args.from.now =
-    to_z-of_z fits_a ∙ c.second_from-first.ensures
-    ∙ ap second_from (at_utc c.assume_utc.result c.args.from.now c.assume_utc.ensures.local c.assume_utc.ensures.offset) in
-    let to : to_z w64 (of_z w64 b) ≡ second_from c.args.to.now =
-    to_z-of_z fits_b ∙ c.second_from.ensures
-    ∙ ap second_from (at_utc c.assume_utc-2.result c.args.to.now c.assume_utc-2.ensures.local c.assume_utc-2.ensures.offset) in
+    let from = second_is c.assume_utc.result _ c.second_from-first.result c.assume_utc.ensures.local c.assume_utc.ensures.offset (search rules) c.second_from-first.ensures in
+    let to = second_is c.assume_utc-2.result _ c.second_from.result c.assume_utc-2.ensures.local c.assume_utc-2.ensures.offset (search rules) c.second_from.ensures in
     let is = list_is c.args.style.now.form view c.args.style.now.name.now c.args.from.now c.args.to.now c.deref.result.now
     (sym c.is_untold.ensures ∙ c.if-is_untold.false) (c.deref.ensures.value ∙ c.in_ok-changes.ensures ∙ (λ i. view.changes (from i) (to i))) in
     let p = err_from_is_err_and c.from_residual-in_err-add_lines.result c.from_residual-in_err-add_lines.ensures.1 in
@@ -23,16 +15,8 @@ returns-in_err-add_lines-clause-cause g c =
 pub returns-clause-ok : goal.returns-clause-ok
 returns-clause-ok g c =
     let view = g.Z.ReplyZone.view c.args.zone.now in
-    let a = c.second_from-first.result in
-    let b = c.second_from.result in
-    let fits_a : FitsSigned w64 a = search rules in
-    let fits_b : FitsSigned w64 b = search rules in
-    let from : to_z w64 (of_z w64 a) ≡ second_from c.args.from.now =
-    to_z-of_z fits_a ∙ c.second_from-first.ensures
-    ∙ ap second_from (at_utc c.assume_utc.result c.args.from.now c.assume_utc.ensures.local c.assume_utc.ensures.offset) in
-    let to : to_z w64 (of_z w64 b) ≡ second_from c.args.to.now =
-    to_z-of_z fits_b ∙ c.second_from.ensures
-    ∙ ap second_from (at_utc c.assume_utc-2.result c.args.to.now c.assume_utc-2.ensures.local c.assume_utc-2.ensures.offset) in
+    let from = second_is c.assume_utc.result _ c.second_from-first.result c.assume_utc.ensures.local c.assume_utc.ensures.offset (search rules) c.second_from-first.ensures in
+    let to = second_is c.assume_utc-2.result _ c.second_from.result c.assume_utc-2.ensures.local c.assume_utc-2.ensures.offset (search rules) c.second_from.ensures in
     let is = list_is c.args.style.now.form view c.args.style.now.name.now c.args.from.now c.args.to.now c.deref.result.now
     (sym c.is_untold.ensures ∙ c.if-is_untold.false) (c.deref.ensures.value ∙ c.in_ok-changes.ensures ∙ (λ i. view.changes (from i) (to i))) in
     whole c.args.into.now.items c.new-text.result.items c.add_lines.new.into.items c.extend_from_slice.new.self.items _ c.new-text.ensures.items
