@@ -1,17 +1,8 @@
 -- Texts that are due between others, and one behind another.
 use Rattle.std.proofs.{Common.{◌≡◌, ℕ, suc, ◌+◌, ◌<◌, ◌≤◌, List, [], ◌∷◌, ◌++◌, length, map, drop, slice_index_or, append_assoc, append-nil, ap, subst, sym, ◌∙◌, refl, arith}, lemmas.List.{at_drop_more, at_drop_all}}
 use Rattle.std.specs.{Prelude.{Ok, Err}, Result.{result_unwrap_or}}
-use Rattle.zone_replies.specs.{Faults.{Due, behind, each_due, followed, IsFaultOf}, declared.fault.ReplyFault.{ReplyFault}, declared.fault.ReplyFault.TheVariants.{OutOfYears, Untold, NoMemory}}
+use Rattle.zone_replies.specs.{DueLaws.{behind_err, pass, stepped}, Faults.{Due, behind, each_due, followed, IsFaultOf}, declared.fault.ReplyFault.{ReplyFault}}
 use Rattle.zone_displays.specs.{Escapes.{escaped_due, escaped_text}, Frames.{each_numbered, framed}}
-
--- what is due under another name
-pub moved : (d due : Due) → d ≡ due → (f : ReplyFault) → IsFaultOf d f → IsFaultOf due f
-moved d due e f h = let P : Due → Type 0 = λ x. IsFaultOf x f in subst P e h
-
-passed : (d due : Due) → ((f : ReplyFault) → d ≡ Err f → due ≡ Err f) → (f : ReplyFault) → IsFaultOf d f → IsFaultOf due f
-passed d due h OutOfYears e = h OutOfYears e
-passed d due h Untold e = h Untold e
-passed d due h NoMemory e = tt
 
 text_is : (a b : List ℕ) → (let x : Due = Ok a in let y : Due = Ok b in x ≡ y) → a ≡ b
 text_is a b e = ap (λ r. result_unwrap_or r []) e
@@ -30,7 +21,7 @@ pub framed_at : (old first mid new head tail : List ℕ) (d : Due) → first ≡
 framed_at old first mid new head tail d begun made added = framed_is old mid new head tail d (made ∙ ap (λ t. behind t d) begun) added
 
 pub framed_fault : (head tail : List ℕ) (d : Due) (f : ReplyFault) → IsFaultOf d f → IsFaultOf (framed head d tail) f
-framed_fault head tail d f e = passed d (framed head d tail) (λ g h. ap (λ x. framed head x tail) h) f e
+framed_fault head tail d f e = pass d (framed head d tail) (λ g h. ap (λ x. framed head x tail) h) f e
 
 pub escaped_is : (old start title new : List ℕ) (d : Due) → start ≡ [] → Ok title ≡ behind start d → new ≡ old ++ escaped_text title → Ok new ≡ behind old (escaped_due d)
 escaped_is old start title new (Ok p) none made added =
@@ -38,22 +29,7 @@ escaped_is old start title new (Ok p) none made added =
 escaped_is old start title new (Err f) none made added = no_text title f made
 
 pub escaped_fault : (d : Due) (f : ReplyFault) → IsFaultOf d f → IsFaultOf (escaped_due d) f
-escaped_fault d f e = passed d (escaped_due d) (λ g h. ap escaped_due h) f e
-
--- a text that is made alone and added whole
-pub whole : (old start text new : List ℕ) (d : Due) → start ≡ [] → Ok text ≡ behind start d → new ≡ old ++ text → Ok new ≡ behind old d
-whole old start text new (Ok p) none made added = ap Ok (added ∙ ap (λ t. old ++ t) (text_is text (start ++ p) made ∙ ap (λ s. s ++ p) none))
-whole old start text new (Err f) none made added = no_text text f made
-
--- what is left after one item of a list
-stepped : (now new : List ℕ) (d r : Due) → Ok new ≡ behind now d → behind new r ≡ behind now (followed d r)
-stepped now new (Ok p) (Ok q) e = ap (λ n. Ok (n ++ q)) (text_is new (now ++ p) e) ∙ ap Ok (append_assoc now p q)
-stepped now new (Ok p) (Err f) e = refl
-stepped now new (Err f) r e = no_text new f e
-
-behind_fault : (old : List ℕ) (d : Due) (f : ReplyFault) → behind old d ≡ Err f → d ≡ Err f
-behind_fault old (Ok p) f e = no_text (old ++ p) f e
-behind_fault old (Err g) f e = e
+escaped_fault d f e = pass d (escaped_due d) (λ g h. ap escaped_due h) f e
 
 after : (n : ℕ) → suc n ≡ n + 1
 after n = omega arith
@@ -77,8 +53,8 @@ pub loop_fault : {A B : Type 0} → (due : ℕ → B → Due) (show : A → B) (
     → n < length xs → x ≡ slice_index_or xs n default → behind now (each_numbered due n (map show (drop n xs))) ≡ behind old all
     → (f : ReplyFault) → IsFaultOf (due n (show x)) f → IsFaultOf all f
 loop_fault due show xs n default x old now all l is left f e =
-    passed (due n (show x)) all
-    (λ g h. behind_fault old all g
+    pass (due n (show x)) all
+    (λ g h. behind_err old all g
     (sym left ∙ ap (behind now) (next_is due show xs n default x l is) ∙ ap (λ d. behind now (followed d (each_numbered due (n + 1) (map show (drop (n + 1) xs))))) h)) f e
 
 pub loop_end : {A B : Type 0} → (due : ℕ → B → Due) (show : A → B) (xs : List A) (n : ℕ) (now : List ℕ) (all : Due)

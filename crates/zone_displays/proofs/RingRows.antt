@@ -1,7 +1,7 @@
 -- Alarms at half past two in Berlin in 2024, as Python's `zoneinfo` has their instants.
 use Rattle.std.proofs.Common.{◌≡◌, refl, ap, ◌∙◌, arith, Bool, true, false, not, lit≤, ◌++◌, ◌∷◌, [], List, ℕ, ℤ, map, pos, filter, int_le, int_lt, ◌&&◌, ◌+ℤ◌, ◌-ℤ◌, ◌*ℤ◌, cond, Option, Ok, Err, Some, None}
 use Rattle.std.specs.{Prelude.{codes}, Fmt.{digits}, Ordering.{int_eq}}
-use Rattle.basics.specs.{DateLaws.{year_of-day}, Dates.{year_of}, Days.{is_leap, days_in_year, days_in_month, days_after_zero, days_before_zero, year_start, days_through, days_into_year, day, IsCountedYear}, SignedLaws.{signed}, Weekdays.{weekday_of}}
+use Rattle.basics.specs.{DateLaws.{year_of-day}, Dates.{year_of}, Days.{is_leap, days_in_year, days_in_month, days_after_zero, days_before_zero, year_start, days_through, days_into_year, day, IsCountedYear, IsDate}, SignedLaws.{signed}, Weekdays.{weekday_of}}
 use Rattle.civil_base.specs.{Instants.{local_at, seconds_of}, Layout.{day_part}, Ranges.{is_in_years}}
 use Rattle.zone_moments.specs.{Written.{epoch_text, fraction_text}, declared.answer_form.AnswerForm.TheVariants.{Epoch}}
 use Rattle.zone_replies.specs.{Faults.{Due, each_due, followed}, Instants.{is_untold, line_due, shown_due}, Skips.{skipping}, Views.{InForce, ZoneView}, declared.fault.ReplyFault.TheVariants.{OutOfYears, Untold}}
@@ -103,22 +103,18 @@ two_days = refl
 counted : IsCountedYear (pos 2024)
 counted = record { first = omega (arith, signed); last = omega (arith, signed) }
 
--- from 30 March to 2 April
-the_30th : year_of (pos 19812) ≡ pos 2024
-unfolding is_leap days_in_year days_in_month days_after_zero days_before_zero year_start days_through days_into_year day
-the_30th = year_of-day (pos 2024) 3 30 counted (record { first_month = lit≤ tt; last_month = lit≤ tt; first_day = lit≤ tt; last_day = lit≤ tt })
+of_2024 : (month d : ℕ) → IsDate (pos 2024) month d → year_of (day (pos 2024) month d) ≡ pos 2024
+of_2024 month d is = year_of-day (pos 2024) month d counted is
 
-the_31st : year_of (pos 19813) ≡ pos 2024
+-- 30 and 31 March, 1 and 2 April
+in_2024 : (year_of (pos 19812) ≡ pos 2024) × (year_of (pos 19813) ≡ pos 2024) × (year_of (pos 19814) ≡ pos 2024) × (year_of (pos 19815) ≡ pos 2024)
 unfolding is_leap days_in_year days_in_month days_after_zero days_before_zero year_start days_through days_into_year day
-the_31st = year_of-day (pos 2024) 3 31 counted (record { first_month = lit≤ tt; last_month = lit≤ tt; first_day = lit≤ tt; last_day = lit≤ tt })
-
-the_1st : year_of (pos 19814) ≡ pos 2024
-unfolding is_leap days_in_year days_in_month days_after_zero days_before_zero year_start days_through days_into_year day
-the_1st = year_of-day (pos 2024) 4 1 counted (record { first_month = lit≤ tt; last_month = lit≤ tt; first_day = lit≤ tt; last_day = lit≤ tt })
-
-the_2nd : year_of (pos 19815) ≡ pos 2024
-unfolding is_leap days_in_year days_in_month days_after_zero days_before_zero year_start days_through days_into_year day
-the_2nd = year_of-day (pos 2024) 4 2 counted (record { first_month = lit≤ tt; last_month = lit≤ tt; first_day = lit≤ tt; last_day = lit≤ tt })
+in_2024 = (
+  of_2024 3 30 (record { first_month = lit≤ tt; last_month = lit≤ tt; first_day = lit≤ tt; last_day = lit≤ tt }),
+  of_2024 3 31 (record { first_month = lit≤ tt; last_month = lit≤ tt; first_day = lit≤ tt; last_day = lit≤ tt }),
+  of_2024 4 1 (record { first_month = lit≤ tt; last_month = lit≤ tt; first_day = lit≤ tt; last_day = lit≤ tt }),
+  of_2024 4 2 (record { first_month = lit≤ tt; last_month = lit≤ tt; first_day = lit≤ tt; last_day = lit≤ tt }),
+)
 
 -- each day from 30 March on, but not where clocks skip the time
 half_past_two : Option ℕ → Option ℤ → AlarmAsked
@@ -140,24 +136,24 @@ told_in last x year = ap (int_lt last) year
 module _ (count : Option ℕ) (until : Option ℤ) where
   on_30th : rung_on (berlin (pos 2099)) (half_past_two count until) (pos 19812) ≡ Ok (pos 1711762200000000000 ∷ [])
   unfolding is_summer in_force total_in instants_in berlin seconds_of rings_at half_past_two is_on weekday_of day_part
-  on_30th = told (berlin (pos 2099)) (half_past_two count until) (pos 19812) refl refl (told_in (pos 2099) (pos 1711765800000000000) the_30th)
+  on_30th = told (berlin (pos 2099)) (half_past_two count until) (pos 19812) refl refl (told_in (pos 2099) (pos 1711765800000000000) in_2024.0)
 
   on_31st : rung_on (berlin (pos 2099)) (half_past_two count until) (pos 19813) ≡ Ok []
   unfolding is_summer in_force total_in instants_in berlin seconds_of rings_at half_past_two is_on weekday_of day_part
-  on_31st = told (berlin (pos 2099)) (half_past_two count until) (pos 19813) refl refl (told_in (pos 2099) (pos 1711852200000000000) the_31st)
+  on_31st = told (berlin (pos 2099)) (half_past_two count until) (pos 19813) refl refl (told_in (pos 2099) (pos 1711852200000000000) in_2024.1)
 
   on_1st : rung_on (berlin (pos 2099)) (half_past_two count until) (pos 19814) ≡ Ok (pos 1711931400000000000 ∷ [])
   unfolding is_summer in_force total_in instants_in berlin seconds_of rings_at half_past_two is_on weekday_of day_part
-  on_1st = told (berlin (pos 2099)) (half_past_two count until) (pos 19814) refl refl (told_in (pos 2099) (pos 1711938600000000000) the_1st)
+  on_1st = told (berlin (pos 2099)) (half_past_two count until) (pos 19814) refl refl (told_in (pos 2099) (pos 1711938600000000000) in_2024.2)
 
   on_2nd : rung_on (berlin (pos 2099)) (half_past_two count until) (pos 19815) ≡ Ok (pos 1712017800000000000 ∷ [])
   unfolding is_summer in_force total_in instants_in berlin seconds_of rings_at half_past_two is_on weekday_of day_part
-  on_2nd = told (berlin (pos 2099)) (half_past_two count until) (pos 19815) refl refl (told_in (pos 2099) (pos 1712025000000000000) the_2nd)
+  on_2nd = told (berlin (pos 2099)) (half_past_two count until) (pos 19815) refl refl (told_in (pos 2099) (pos 1712025000000000000) in_2024.3)
 
   -- past the last year that is told, and past all years
   after_2023 : rung_on (berlin (pos 2023)) (half_past_two count until) (pos 19812) ≡ Err Untold
   unfolding berlin half_past_two is_on weekday_of day_part
-  after_2023 = not_told (berlin (pos 2023)) (half_past_two count until) (pos 19812) refl refl (told_in (pos 2023) (pos 1711765800000000000) the_30th)
+  after_2023 = not_told (berlin (pos 2023)) (half_past_two count until) (pos 19812) refl refl (told_in (pos 2023) (pos 1711765800000000000) in_2024.0)
 
   after_9999 : rung_on (berlin (pos 2099)) (half_past_two count until) (pos 2932897) ≡ Err OutOfYears
   after_9999 = not_dated (berlin (pos 2099)) (half_past_two count until) (pos 2932897) refl
@@ -181,11 +177,11 @@ line_of t years year =
 
 line_30th : line_due Epoch (berlin (pos 2099)) (codes "Europe/Berlin") (pos 1711762200000000000) ≡ Ok (codes "@1711762200" ++ 10 ∷ [])
 unfolding is_summer in_force total_in seconds_of day_part epoch_text fraction_text digits
-line_30th = line_of (pos 1711762200000000000) refl the_30th
+line_30th = line_of (pos 1711762200000000000) refl in_2024.0
 
 line_1st : line_due Epoch (berlin (pos 2099)) (codes "Europe/Berlin") (pos 1711931400000000000) ≡ Ok (codes "@1711931400" ++ 10 ∷ [])
 unfolding is_summer in_force total_in seconds_of day_part epoch_text fraction_text digits
-line_1st = line_of (pos 1711931400000000000) refl the_1st
+line_1st = line_of (pos 1711931400000000000) refl in_2024.2
 
 -- up to 1 April, that day too
 up_to_1st : rings_due Epoch (berlin (pos 2099)) (codes "Europe/Berlin") (half_past_two None (Some (pos 19814)))

@@ -123,3 +123,9 @@ module _ (view : ZoneView) (alarm : AlarmAsked) (day : ℤ) where
       → rung_on view alarm day ≡ Ok (rings_at alarm.gap alarm.fold view (time_on day alarm.time))
   unfolding rung_on
   told dated on untold = λ i. told_by (dated i) (on i) (untold i) (rings_at alarm.gap alarm.fold view (time_on day alarm.time))
+
+  -- by the local time at which it rings
+  pub told_at : (local : ℤ) (ts : List ℤ) → local ≡ time_on day alarm.time → is_dated day ≡ true → is_on alarm.days day ≡ true
+      → is_untold view local ≡ false → ts ≡ rings_at alarm.gap alarm.fold view local → rung_on view alarm day ≡ Ok ts
+  told_at local ts at dated on in_time rings =
+      told dated on (ap (is_untold view) (sym at) ∙ in_time) ∙ sym (λ i. Ok ((rings ∙ ap (rings_at alarm.gap alarm.fold view) at) i))

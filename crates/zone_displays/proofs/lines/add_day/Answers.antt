@@ -1,7 +1,7 @@
-use Rattle.std.proofs.{Common.{◌≡◌, true, false, not, map, ap, sym, ◌∙◌, Ok}, lemmas.Result.{err_from_is_err_and}}
+use Rattle.std.proofs.{Common.{◌≡◌, true, false, not, map, ap, sym, ◌∙◌}, lemmas.Result.{err_from_is_err_and}}
 use Rattle.civil_base.specs.DateTimes.{instant}
-use Rattle.zone_replies.specs.{DueLaws.{moved}, Faults.{behind, each_due}, Instants.{is_untold, line_due}}
-use Rattle.zone_displays.{specs.Days.{is_on}, specs.Rings.{counts, lines_due, rings_at, time_on}, proofs.RungLemmas.{not_on, not_told, quiet, some_rings, told}}
+use Rattle.zone_replies.specs.{DueLaws.{moved}, Faults.{behind}, Instants.{is_untold}}
+use Rattle.zone_displays.{specs.Days.{is_on}, specs.Rings.{counts, lines_due, time_on}, proofs.RungLemmas.{not_on, not_told, quiet, some_rings, told_at}}
 use Rattle.zone_displays.proofs.lines.add_day.Goals as goal
 use Rattle.zone_words.specs.TaskShown.{alarm_shown}
 
@@ -32,41 +32,23 @@ pub returns-in_err-add_lines-clause-err : goal.returns-in_err-add_lines-clause-e
 returns-in_err-add_lines-clause-err g c =
     let view = g.Z.ReplyZone.view c.args.zone.now in
     let alarm = alarm_shown c.args.alarm.now in
-    let form = c.args.style.now.form in
-    let name = c.args.style.now.name.now in
-    let on : is_on alarm.days c.args.date ≡ true = sym c.is_on.ensures ∙ c.if-not-is_on.false in
-    let in_time : is_untold view (time_on c.args.date alarm.time) ≡ false =
-    ap (is_untold view) (sym c.new-local.ensures) ∙ sym c.is_untold.ensures ∙ c.if-is_untold.false in
-    let is : each_due (line_due form view name) (map instant c.as_slice-dates.result.now) ≡ lines_due form view name _ =
-    ap (each_due (line_due form view name))
-    (ap (map instant) c.as_slice-dates.ensures.value ∙ c.in_ok-rings.ensures ∙ ap (rings_at alarm.gap alarm.fold view) c.new-local.ensures)
-    ∙ sym (ap (lines_due form view name) (told view alarm c.args.date c.requires on in_time)) in
+    let rung = told_at view alarm c.args.date c.new-local.result _ c.new-local.ensures c.requires (sym c.is_on.ensures ∙ c.if-not-is_on.false)
+    (sym c.is_untold.ensures ∙ c.if-is_untold.false) (ap (map instant) c.as_slice-dates.ensures.value ∙ c.in_ok-rings.ensures) in
     let p = err_from_is_err_and c.from_residual-in_err-add_lines.result c.from_residual-in_err-add_lines.ensures.1 in
-    rw (p.1, p.2) (moved _ _ is _ c.in_err-add_lines.ensures.err)
+    rw (p.1, p.2) (moved _ _ (sym (ap (lines_due c.args.style.now.form view c.args.style.now.name.now) rung)) _ c.in_err-add_lines.ensures.err)
 
 pub returns-clause-ok : goal.returns-clause-ok
 returns-clause-ok g c =
     let view = g.Z.ReplyZone.view c.args.zone.now in
     let alarm = alarm_shown c.args.alarm.now in
-    let form = c.args.style.now.form in
-    let name = c.args.style.now.name.now in
-    let on : is_on alarm.days c.args.date ≡ true = sym c.is_on.ensures ∙ c.if-not-is_on.false in
-    let in_time : is_untold view (time_on c.args.date alarm.time) ≡ false =
-    ap (is_untold view) (sym c.new-local.ensures) ∙ sym c.is_untold.ensures ∙ c.if-is_untold.false in
-    let is : each_due (line_due form view name) (map instant c.as_slice-dates.result.now) ≡ lines_due form view name _ =
-    ap (each_due (line_due form view name))
-    (ap (map instant) c.as_slice-dates.ensures.value ∙ c.in_ok-rings.ensures ∙ ap (rings_at alarm.gap alarm.fold view) c.new-local.ensures)
-    ∙ sym (ap (lines_due form view name) (told view alarm c.args.date c.requires on in_time)) in
-    c.in_ok-add_lines.ensures.ok ∙ ap (behind c.args.into.now.items) is
+    let rung = told_at view alarm c.args.date c.new-local.result _ c.new-local.ensures c.requires (sym c.is_on.ensures ∙ c.if-not-is_on.false)
+    (sym c.is_untold.ensures ∙ c.if-is_untold.false) (ap (map instant) c.as_slice-dates.ensures.value ∙ c.in_ok-rings.ensures) in
+    c.in_ok-add_lines.ensures.ok ∙ sym (ap (λ r. behind c.args.into.now.items (lines_due c.args.style.now.form view c.args.style.now.name.now r)) rung)
 
 pub returns-clause-rung : goal.returns-clause-rung
 returns-clause-rung g c =
     let view = g.Z.ReplyZone.view c.args.zone.now in
     let alarm = alarm_shown c.args.alarm.now in
-    let on : is_on alarm.days c.args.date ≡ true = sym c.is_on.ensures ∙ c.if-not-is_on.false in
-    let in_time : is_untold view (time_on c.args.date alarm.time) ≡ false =
-    ap (is_untold view) (sym c.new-local.ensures) ∙ sym c.is_untold.ensures ∙ c.if-is_untold.false in
     ap not c.is_empty.ensures ∙ some_rings instant c.as_slice-dates.result.now
-    ∙ ap (λ ts. counts (Ok ts))
-    (ap (map instant) c.as_slice-dates.ensures.value ∙ c.in_ok-rings.ensures ∙ ap (rings_at alarm.gap alarm.fold view) c.new-local.ensures)
-    ∙ sym (ap counts (told view alarm c.args.date c.requires on in_time))
+    ∙ sym (ap counts (told_at view alarm c.args.date c.new-local.result _ c.new-local.ensures c.requires (sym c.is_on.ensures ∙ c.if-not-is_on.false)
+    (sym c.is_untold.ensures ∙ c.if-is_untold.false) (ap (map instant) c.as_slice-dates.ensures.value ∙ c.in_ok-rings.ensures)))
