@@ -1,7 +1,7 @@
 -- The codes of some configurations, and the places of all parts.
 use Rattle.std.proofs.Common.{lit<, ◌≡◌, refl, [], ◌∷◌, map, true, false, Some, None}
 use Rattle.civil_items.specs.declared.iso8601.{FormattedComponents.TheVariants.{None as Nothing, Date, Time, Offset, DateTime, DateTimeOffset, TimeOffset}, DateKind.TheVariants.{Calendar, Week, Ordinal}, TimePrecision.TheVariants.{Hour, Minute, Second}}
-use Rattle.civil_items.specs.{declared.iso8601.OffsetPrecision.TheVariants.{Hour as ToHours, Minute as ToMinutes}, declared.digits.Digits.{Digits}, Codes.{components_place, kind_place, unit_place, precision_place, code}, Defaults.{default_config, nine}}
+use Rattle.civil_items.specs.{declared.iso8601.OffsetPrecision.TheVariants.{Hour as ToHours, Minute as ToMinutes}, declared.{config.Config.{Config}, digits.Digits.{Digits}}, Codes.{components_place, kind_place, unit_place, precision_place, code}, Defaults.{default_config, nine}}
 
 worked_parts : map components_place (Nothing ∷ Date ∷ Time ∷ Offset ∷ DateTime ∷ DateTimeOffset ∷ TimeOffset ∷ [])
     ≡ 0 ∷ 1 ∷ 2 ∷ 3 ∷ 4 ∷ 5 ∷ 6 ∷ []
@@ -24,24 +24,15 @@ unfolding code
 worked_default = refl
 
 -- each part in its byte
-worked_code : code (record {
-  formatted_components = TimeOffset;
-  use_separators = false;
-  year_is_six_digits = true;
-  date_kind = Ordinal;
-  time_precision = Minute (Some many);
-  offset_precision = ToHours;
-}) ≡ 0x0600010201ff00000000000000000000
+abbrev other_texts : Config
+other_texts = record default_config { formatted_components = TimeOffset; use_separators = false; year_is_six_digits = true }
+
+worked_code : code (record other_texts { date_kind = Ordinal; time_precision = Minute (Some many); offset_precision = ToHours })
+    ≡ 0x0600010201ff00000000000000000000
 unfolding code
 worked_code = refl
 
-worked_no_digits : code (record {
-  formatted_components = Nothing;
-  use_separators = true;
-  year_is_six_digits = false;
-  date_kind = Week;
-  time_precision = Hour None;
-  offset_precision = ToMinutes;
-}) ≡ 0x00010001000001000000000000000000
+worked_no_digits : code (record default_config { formatted_components = Nothing; date_kind = Week; time_precision = Hour None })
+    ≡ 0x00010001000001000000000000000000
 unfolding code
 worked_no_digits = refl

@@ -1,10 +1,11 @@
 -- Which trees are the same, and what is inside items and errors, over all kinds of them.
-use Rattle.std.proofs.Common.{◌≡◌, refl, List, [], ◌∷◌, ◌++◌, map, true, false, codes, Ok, Err}
+use Rattle.std.proofs.Common.{◌≡◌, ℕ, refl, cond, nat_eq, List, [], ◌∷◌, ◌++◌, map, true, false, codes, Result, Ok, Err}
 use denote.Bor.{Bor}
 use Rattle.std.specs.Global.{Vec}
+use Rattle.civil_parts.specs.declared.error.{ConversionRange.{ConversionRange as RangeOfConversion}, ComponentRange.{ComponentRange as RangeOfComponent}, InvalidVariant.{InvalidVariant as NoVariant}}
 use Rattle.civil_items.specs.declared.format_item.Component.{Component, TheVariants.{Year, Month, Day, Hour, Minute, Second, Subsecond, OffsetHour, OffsetMinute, OffsetSecond}}
 use Rattle.civil_items.specs.{declared.owned_format_item.OwnedFormatItem.TheOpen.{OwnedFormatItem-F}, declared.format_item.BorrowedFormatItem.TheOpen.{BorrowedFormatItem-F}, ItemTrees.{owned_level, borrowed_level}}
-use Rattle.civil_items.specs.{Trees.{Tree, Trees, literal, text, component, compound, optional, first, no_trees, tree, trees_of, component_place, component_in, compound_in, plain, same}, declared.error.Error.{Error}}
+use Rattle.civil_items.specs.{Trees.{Tree, Trees, literal, text, component, compound, optional, first, no_trees, tree, trees_of, component_place, component_in, compound_in, plain, same}, declared.error.{IndeterminateOffset.{IndeterminateOffset as UnknownOffset}, DifferentVariant.{DifferentVariant as OtherVariant}, Error.{Error}}}
 use Rattle.civil_items.specs.declared.error.Error.TheVariants.{ConversionRange, ComponentRange, IndeterminateOffset, DifferentVariant, InvalidVariant}
 use Rattle.civil_items.specs.Errors.{conversion_range_in, component_range_in, indeterminate_offset_in, different_variant_in, invalid_variant_in}
 
@@ -104,22 +105,13 @@ errors =
     ConversionRange (record {}) ∷ ComponentRange (record {}) ∷ IndeterminateOffset (record {}) ∷ DifferentVariant (record {}) ∷
     InvalidVariant (record {}) ∷ []
 
-worked_conversion_range : map conversion_range_in errors
-    ≡ Ok (record {}) ∷ Err (record {}) ∷ Err (record {}) ∷ Err (record {}) ∷ Err (record {}) ∷ []
-worked_conversion_range = refl
+-- the one at that place is taken, and no other
+abbrev taken_at : {A : Type 0} → ℕ → A → List (Result A OtherVariant)
+taken_at place own = map (λ k. cond (nat_eq k place) (Ok own) (Err (record {}))) (0 ∷ 1 ∷ 2 ∷ 3 ∷ 4 ∷ [])
 
-worked_component_range : map component_range_in errors
-    ≡ Err (record {}) ∷ Ok (record {}) ∷ Err (record {}) ∷ Err (record {}) ∷ Err (record {}) ∷ []
-worked_component_range = refl
-
-worked_indeterminate_offset : map indeterminate_offset_in errors
-    ≡ Err (record {}) ∷ Err (record {}) ∷ Ok (record {}) ∷ Err (record {}) ∷ Err (record {}) ∷ []
-worked_indeterminate_offset = refl
-
-worked_different_variant : map different_variant_in errors
-    ≡ Err (record {}) ∷ Err (record {}) ∷ Err (record {}) ∷ Ok (record {}) ∷ Err (record {}) ∷ []
-worked_different_variant = refl
-
-worked_invalid_variant : map invalid_variant_in errors
-    ≡ Err (record {}) ∷ Err (record {}) ∷ Err (record {}) ∷ Err (record {}) ∷ Ok (record {}) ∷ []
-worked_invalid_variant = refl
+worked_errors : (map conversion_range_in errors ≡ taken_at {A = RangeOfConversion} 0 (record {}))
+    × (map component_range_in errors ≡ taken_at {A = RangeOfComponent} 1 (record {}))
+    × (map indeterminate_offset_in errors ≡ taken_at {A = UnknownOffset} 2 (record {}))
+    × (map different_variant_in errors ≡ taken_at {A = OtherVariant} 3 (record {}))
+    × (map invalid_variant_in errors ≡ taken_at {A = NoVariant} 4 (record {}))
+worked_errors = (refl, refl, refl, refl, refl)
