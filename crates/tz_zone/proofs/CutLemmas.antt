@@ -1,53 +1,32 @@
 -- A search among entries for the last one at or before a second.
-use Rattle.std.proofs.{Common.{◌≡◌, ℕ, zero, suc, ◌+◌, ◌<◌, ◌≤◌, Bool, true, false, cond, List, length, ℤ, int_le, int_lt, ltb, refl, ap, ◌∙◌, subst, ⊎_elim, arith}, lemmas.Bool.{cases_lt}}
+use Rattle.std.proofs.{Common.{◌≡◌, ℕ, zero, suc, ◌+◌, ◌<◌, ◌≤◌, List, length, ℤ, int_le, int_lt, ltb, subst, ⊎_elim, arith}, lemmas.Bool.{cases_lt}}
 use Rattle.std.specs.{Prelude.{◌&&◌}, declared.cmp.Ordering.TheVariants.{Less, Equal, Greater}}
 use Rattle.basics.specs.ComparisonLaws.{le_le, lt_fail, lt_from_fail, lt_from_pass, lt_le, lt_pass, opposed}
-use Rattle.tz_zone.{specs.Spans.{Shift, shift_at, TimesDontFall, IsCut}, specs.Search.{GoesUp}, specs.Sets.{order_at, IsBetween}, proofs.SpanLemmas.{cut_of}, proofs.PlaceLemmas.{ended_false, ended_true, is_ended, not_ended}}
+use Rattle.tz_zone.{specs.Spans.{Shift, shift_at, TimesDontFall, IsCut}, specs.Search.{GoesUp}, specs.Sets.{order_at, IsBetween}, proofs.SpanLemmas.{cut_of}, proofs.ChoiceLemmas.{AreApart, choose_first, choose_second, choose_third, chosen_first, chosen_second, chosen_third}, proofs.PlaceLemmas.{ended_false, ended_true, is_ended, not_ended}}
 
-is_greater : (a b : Bool) → cond a Greater (cond b Less Equal) ≡ Greater → a ≡ true
-is_greater true b e = refl
-is_greater false true e = cc
-is_greater false false e = cc
-
-is_less : (a b : Bool) → cond a Greater (cond b Less Equal) ≡ Less → (a ≡ false) × (b ≡ true)
-is_less true b e = absurd (cc)
-is_less false true e = (refl, refl)
-is_less false false e = absurd (cc)
-
-is_equal : (a b : Bool) → cond a Greater (cond b Less Equal) ≡ Equal → (a ≡ false) × (b ≡ false)
-is_equal true b e = absurd (cc)
-is_equal false true e = absurd (cc)
-is_equal false false e = (refl, refl)
-
-greater : (a b : Bool) → a ≡ true → cond a Greater (cond b Less Equal) ≡ Greater
-greater a b e = ap (λ t. cond t Greater (cond b Less Equal)) e
-
-less : (a b : Bool) → a ≡ false → b ≡ true → cond a Greater (cond b Less Equal) ≡ Less
-less a b e f = ap (λ t. cond t Greater (cond b Less Equal)) e ∙ ap (λ t. cond t Less Equal) f
-
-equal : (a b : Bool) → a ≡ false → b ≡ false → cond a Greater (cond b Less Equal) ≡ Equal
-equal a b e f = ap (λ t. cond t Greater (cond b Less Equal)) e ∙ ap (λ t. cond t Less Equal) f
+apart : AreApart Greater Less Equal
+apart = (λ e. cc, λ e. cc, λ e. cc)
 
 module _ (shifts : List Shift) (x : ℤ) where
   pub cut_goes_up : (low high : ℕ) → high ≤ length shifts → TimesDontFall shifts → GoesUp (λ k. order_at shifts k x) low high
   cut_goes_up low high size times = record {
     before = λ i j _ l m e.
-        let is = is_less (int_lt x (shift_at shifts j).0) (ltb (j + 1) (length shifts) && int_le (shift_at shifts (j + 1)).0 x) e in
+        let is = chosen_second apart (int_lt x (shift_at shifts j).0) (ltb (j + 1) (length shifts) && int_le (shift_at shifts (j + 1)).0 x) e in
         let next = ended_true (j + 1) (length shifts) (shift_at shifts (j + 1)).0 x is.1 in
-        less (int_lt x (shift_at shifts i).0) (ltb (i + 1) (length shifts) && int_le (shift_at shifts (i + 1)).0 x)
+        choose_second Greater Less Equal (int_lt x (shift_at shifts i).0) (ltb (i + 1) (length shifts) && int_le (shift_at shifts (i + 1)).0 x)
         (lt_fail _ _ (le_le _ _ _ (times i j l (omega (arith, next.0))) (lt_from_fail _ _ is.0)))
         (is_ended (i + 1) (length shifts) _ x (omega (arith, next.0)) (le_le _ _ _ (times (i + 1) (j + 1) (omega arith) next.0) next.1));
     after = λ i j _ l m e.
         let is =
-        lt_from_pass _ _ (is_greater (int_lt x (shift_at shifts i).0)
+        lt_from_pass _ _ (chosen_first apart (int_lt x (shift_at shifts i).0)
         (ltb (i + 1) (length shifts) && int_le (shift_at shifts (i + 1)).0 x) e) in
-        greater (int_lt x (shift_at shifts j).0) (ltb (j + 1) (length shifts) && int_le (shift_at shifts (j + 1)).0 x)
+        choose_first Greater Less Equal (int_lt x (shift_at shifts j).0) (ltb (j + 1) (length shifts) && int_le (shift_at shifts (j + 1)).0 x)
         (lt_pass _ _ (lt_le _ _ _ is (times i j l (omega (arith, m, size)))));
   }
 
   pub cut_found : (k : ℕ) → k < length shifts → TimesDontFall shifts → order_at shifts k x ≡ Equal → IsCut shifts (k + 1) x
   cut_found k l times e =
-      let is = is_equal (int_lt x (shift_at shifts k).0) (ltb (k + 1) (length shifts) && int_le (shift_at shifts (k + 1)).0 x) e in
+      let is = chosen_third apart (int_lt x (shift_at shifts k).0) (ltb (k + 1) (length shifts) && int_le (shift_at shifts (k + 1)).0 x) e in
       record {
         within = omega arith;
         before = λ j m. le_le _ _ _ (times j k (omega arith) l) (lt_from_fail _ _ is.0);
@@ -56,7 +35,7 @@ module _ (shifts : List Shift) (x : ℤ) where
 
   lies : (k : ℕ) → IsCut shifts (suc k) x → order_at shifts k x ≡ Equal
   lies k cut =
-      equal (int_lt x (shift_at shifts k).0) (ltb (k + 1) (length shifts) && int_le (shift_at shifts (k + 1)).0 x)
+      choose_third Greater Less Equal (int_lt x (shift_at shifts k).0) (ltb (k + 1) (length shifts) && int_le (shift_at shifts (k + 1)).0 x)
       (lt_fail _ _ (cut.before k (omega arith)))
       (not_ended (k + 1) (length shifts) _ x (λ l. cut.after (k + 1) (omega arith) l))
 

@@ -2,6 +2,7 @@ pub mod Halves
 pub mod SpanLemmas
 pub mod AnswerLemmas
 pub mod PlaceLemmas
+pub mod ChoiceLemmas
 pub mod OrderLemmas
 pub mod OrderlyLemmas
 pub mod CutLemmas

@@ -1,8 +1,9 @@
 -- Gaps, folds, faults, abbreviations and kinds of small sets, at worked rows.
-use Rattle.std.{proofs.Common.{◌≡◌, ℕ, zero, suc, ◌+◌, true, false, List, [], ◌∷◌, ℤ, pos, negsuc, refl, ap, ◌∙◌, arith}, specs.Prelude.{Bool, Option, Some, None, Ok, Err, codes, int_lt}, proofs.lemmas.Int.{ints}}
+use Rattle.std.{proofs.Common.{◌≡◌, ℕ, zero, suc, ◌+◌, true, false, List, [], ◌∷◌, map, ℤ, pos, negsuc, refl, ap, ◌∙◌, arith}, specs.Prelude.{Bool, Option, Some, None, Ok, Err, codes, int_lt}, proofs.lemmas.Int.{ints}}
 use Rattle.civil_base.specs.Instants.{seconds_of}
 use Rattle.zone_spans.specs.Schedules.{Schedule, total_at, totals_of, is_in_offset_range}
 use Rattle.zone_spans.specs.declared.fault.SpanFault.TheVariants as span_fault
+use Rattle.zone_spans.specs.declared.span.FixedTimespan.{FixedTimespan}
 use Rattle.zone_spans.specs.declared.span.FixedTimespanSet as spans
 use Rattle.tz_zone.specs.{declared.set.TzFault.TheVariants.{OffsetRange, Falling, Bound}, declared.time_zone.OffsetResult.{OffsetResult}, declared.set.FixedTimespanSet.{FixedTimespanSet}, Answers.{listed, AreAdjacent, AreMapped, EachOf}}
 use Rattle.tz_zone.specs.{Compiles.{IsZoneFault}, Faults.{IsFault}, InForce.{GivesAt}, Results.{has_one, only_in, first_in, second_in, is_none_in, is_ambiguous_in}, Scans.{spans_from}, Sets.{schedule_of, shifts_of, span_in, IsOrderlyZone, IsSpanTime}}
@@ -18,34 +19,19 @@ zone first shifts = record { first = first; shifts = shifts }
 abbrev ahead : Schedule
 ahead = zone (pos 0) ((pos 1000000, pos 3600) ∷ [])
 
-last_before_the_gap : spans_from ahead (pos 999999) 0 2 ≡ 0 ∷ []
-last_before_the_gap = refl
-
-the_gap_begins : spans_from ahead (pos 1000000) 0 2 ≡ []
-the_gap_begins = refl
-
-the_gap_ends : spans_from ahead (pos 1003599) 0 2 ≡ []
-the_gap_ends = refl
-
-first_after_the_gap : spans_from ahead (pos 1003600) 0 2 ≡ 1 ∷ []
-first_after_the_gap = refl
+-- the last second before the gap, its first and its last, and the first after it
+about_the_gap : map (λ x. spans_from ahead x 0 2) (pos 999999 ∷ pos 1000000 ∷ pos 1003599 ∷ pos 1003600 ∷ []) ≡ (0 ∷ []) ∷ [] ∷ [] ∷ (1 ∷ []) ∷ []
+about_the_gap = refl
 
 -- ---- a clock set back by an hour at the second 1,000,000
 
 abbrev back : Schedule
 back = zone (pos 0) ((pos 1000000, negsuc 3599) ∷ [])
 
-last_before_the_fold : spans_from back (pos 996399) 0 2 ≡ 0 ∷ []
-last_before_the_fold = refl
-
-the_fold_begins : spans_from back (pos 996400) 0 2 ≡ 0 ∷ 1 ∷ []
-the_fold_begins = refl
-
-the_fold_ends : spans_from back (pos 999999) 0 2 ≡ 0 ∷ 1 ∷ []
-the_fold_ends = refl
-
-first_after_the_fold : spans_from back (pos 1000000) 0 2 ≡ 1 ∷ []
-first_after_the_fold = refl
+-- and so of the fold
+about_the_fold : map (λ x. spans_from back x 0 2) (pos 996399 ∷ pos 996400 ∷ pos 999999 ∷ pos 1000000 ∷ [])
+    ≡ (0 ∷ []) ∷ (0 ∷ 1 ∷ []) ∷ (0 ∷ 1 ∷ []) ∷ (1 ∷ []) ∷ []
+about_the_fold = refl
 
 -- ---- three spans over one local second
 
@@ -99,14 +85,9 @@ late_is_not_first : IsFault falling_and_late Bound → ⊥
 late_is_not_first fault = absurd (omega (arith, ints, fault.1 0 1 (omega arith) (omega arith)))
 
 -- 26 hours is too far, on either side
-largest_offset : is_in_offset_range (zone (pos 93599) ((pos 0, negsuc 93598) ∷ [])) ≡ true
-largest_offset = refl
-
-offset_too_large : is_in_offset_range (zone (pos 0) ((pos 0, pos 93600) ∷ [])) ≡ false
-offset_too_large = refl
-
-offset_too_small : is_in_offset_range (zone (negsuc 93599) []) ≡ false
-offset_too_small = refl
+offset_ranges : map is_in_offset_range (zone (pos 93599) ((pos 0, negsuc 93598) ∷ []) ∷ zone (pos 0) ((pos 0, pos 93600) ∷ []) ∷ zone (negsuc 93599) [] ∷ [])
+    ≡ true ∷ false ∷ false ∷ []
+offset_ranges = refl
 
 last_time : IsSpanTime (pos 1099511627776)
 last_time = (omega (arith, ints), omega (arith, ints))
@@ -122,72 +103,61 @@ time_too_early h = absurd (omega (arith, ints, h.0))
 
 -- ---- what is in force at an instant: winter time, and summer time from the second 1,000 on
 
+abbrev from_1000 : FixedTimespan → FixedTimespan → FixedTimespanSet
+from_1000 winter summer = record { name = codes "Test"; first = winter; others = (pos 1000, summer) ∷ [] }
+
+abbrev span : ℤ → List ℕ → FixedTimespan
+span saving name = record { utc_offset = pos 3600; dst_offset = saving; name = name }
+
 abbrev summer : FixedTimespanSet
-summer = record {
-  name = codes "Test/Summer";
-  first = record { utc_offset = pos 3600; dst_offset = pos 0; name = codes "CET" };
-  others = (pos 1000, record { utc_offset = pos 3600; dst_offset = pos 3600; name = codes "CEST" }) ∷ [];
-}
+summer = from_1000 (span (pos 0) (codes "CET")) (span (pos 3600) (codes "CEST"))
 
-last_of_winter : total_at (schedule_of summer) (pos 999999999999) ≡ pos 3600
+last_and_first : map (total_at (schedule_of summer)) (pos 999999999999 ∷ pos 1000000000000 ∷ []) ≡ pos 3600 ∷ pos 7200 ∷ []
 unfolding total_at
-last_of_winter = refl
-
-first_of_summer : total_at (schedule_of summer) (pos 1000000000000) ≡ pos 7200
-unfolding total_at
-first_of_summer = refl
+last_and_first = refl
 
 -- half a second before 1970 lies in the second before it
 half_a_second_before : seconds_of (negsuc 499999999) ≡ negsuc 0
 unfolding seconds_of
 half_a_second_before = refl
 
-winter_span : (k : ℕ) → IsCut (shifts_of summer) k (pos 999) → k ≡ 0
-winter_span zero cut = refl
-winter_span (suc k) cut = absurd (omega (arith, ints, cut.before 0 (omega arith)))
+-- of a change at the second 1,000
+first_span : (early late : FixedTimespan) (k : ℕ) → IsCut (shifts_of (from_1000 early late)) k (pos 999) → k ≡ 0
+first_span early late zero cut = refl
+first_span early late (suc k) cut = absurd (omega (arith, ints, cut.before 0 (omega arith)))
 
-summer_span : (k : ℕ) → IsCut (shifts_of summer) k (pos 1000) → k ≡ 1
-summer_span zero cut = absurd (omega (arith, ints, cut.after 0 (omega arith) (omega arith)))
-summer_span (suc zero) cut = refl
-summer_span (suc (suc k)) cut = absurd (omega (arith, cut.within))
+second_span : (early late : FixedTimespan) (k : ℕ) → IsCut (shifts_of (from_1000 early late)) k (pos 1000) → k ≡ 1
+second_span early late zero cut = absurd (omega (arith, ints, cut.after 0 (omega arith) (omega arith)))
+second_span early late (suc zero) cut = refl
+second_span early late (suc (suc k)) cut = absurd (omega (arith, cut.within))
 
-called_in_winter : (name : List ℕ) (saving : Bool) → GivesAt summer (pos 999999999999) name saving
-    → (name ≡ codes "CET") × (saving ≡ false)
+-- by the span that is in force
+called_in : (set : FixedTimespanSet) (t : ℤ) (n : ℕ) → ((k : ℕ) → IsCut (shifts_of set) k (seconds_of t) → k ≡ n)
+    → (name : List ℕ) (saving : Bool) → GivesAt set t name saving → (name ≡ (span_in set n).name) × (saving ≡ int_lt (pos 0) (span_in set n).dst_offset)
+called_in set t n only name saving given =
+    let is = only given.span given.in_force in
+    (given.named ∙ ap (λ k. (span_in set k).name) is, given.saves ∙ ap (λ k. int_lt (pos 0) (span_in set k).dst_offset) is)
+
+called_in_winter : (name : List ℕ) (saving : Bool) → GivesAt summer (pos 999999999999) name saving → (name ≡ codes "CET") × (saving ≡ false)
 unfolding seconds_of
-called_in_winter name saving given =
-    let is = winter_span given.span given.in_force in
-    (given.named ∙ ap (λ k. (span_in summer k).name) is, given.saves ∙ ap (λ k. int_lt (pos 0) (span_in summer k).dst_offset) is)
+called_in_winter = called_in summer (pos 999999999999) 0 (first_span (span (pos 0) (codes "CET")) (span (pos 3600) (codes "CEST")))
 
-called_in_summer : (name : List ℕ) (saving : Bool) → GivesAt summer (pos 1000000000000) name saving
-    → (name ≡ codes "CEST") × (saving ≡ true)
+called_in_summer : (name : List ℕ) (saving : Bool) → GivesAt summer (pos 1000000000000) name saving → (name ≡ codes "CEST") × (saving ≡ true)
 unfolding seconds_of
-called_in_summer name saving given =
-    let is = summer_span given.span given.in_force in
-    (given.named ∙ ap (λ k. (span_in summer k).name) is, given.saves ∙ ap (λ k. int_lt (pos 0) (span_in summer k).dst_offset) is)
+called_in_summer = called_in summer (pos 1000000000000) 1 (second_span (span (pos 0) (codes "CET")) (span (pos 3600) (codes "CEST")))
 
 -- ---- a saving below 0 is no daylight saving time: Irish time, with its winter as the saving
 
 abbrev irish : FixedTimespanSet
-irish = record {
-  name = codes "Test/Irish";
-  first = record { utc_offset = pos 3600; dst_offset = negsuc 3599; name = codes "GMT" };
-  others = (pos 1000, record { utc_offset = pos 3600; dst_offset = pos 0; name = codes "IST" }) ∷ [];
-}
+irish = from_1000 (span (negsuc 3599) (codes "GMT")) (span (pos 0) (codes "IST"))
 
 irish_winter : total_at (schedule_of irish) (pos 999999999999) ≡ pos 0
 unfolding total_at
 irish_winter = refl
 
-irish_winter_span : (k : ℕ) → IsCut (shifts_of irish) k (pos 999) → k ≡ 0
-irish_winter_span zero cut = refl
-irish_winter_span (suc k) cut = absurd (omega (arith, ints, cut.before 0 (omega arith)))
-
-called_in_irish_winter : (name : List ℕ) (saving : Bool) → GivesAt irish (pos 999999999999) name saving
-    → (name ≡ codes "GMT") × (saving ≡ false)
+called_in_irish_winter : (name : List ℕ) (saving : Bool) → GivesAt irish (pos 999999999999) name saving → (name ≡ codes "GMT") × (saving ≡ false)
 unfolding seconds_of
-called_in_irish_winter name saving given =
-    let is = irish_winter_span given.span given.in_force in
-    (given.named ∙ ap (λ k. (span_in irish k).name) is, given.saves ∙ ap (λ k. int_lt (pos 0) (span_in irish k).dst_offset) is)
+called_in_irish_winter = called_in irish (pos 999999999999) 0 (first_span (span (negsuc 3599) (codes "GMT")) (span (pos 0) (codes "IST")))
 
 -- ---- the values of an answer
 

@@ -5,39 +5,15 @@ use Rattle.basics.specs.ComparisonLaws.{le_le, lt_le}
 use Rattle.civil_base.specs.{Instants.{seconds_of}, RangeLaws.{offset_greatest, offset_least}, Ranges.{IsOffset}}
 use Rattle.zone_spans.specs.Schedules.{Schedule, total_at}
 use Rattle.tz_zone.specs.{InForce.{totals_at}, Spans.{local_start, local_end, IsIn, IsOrderly}, Search.{GoesUp}, Sets.{IsAccepted, IsNear, has_ended, is_ahead, order_of, schedule_of, shifts_of, total_of_span}, declared.set.FixedTimespanSet.{FixedTimespanSet}}
-use Rattle.tz_zone.proofs.{PlaceLemmas.{ended_false, ended_true, not_ended, is_ended, ahead_false, ahead_true, not_ahead, is_before}, SetLemmas.{count_same, span_offset}, AnswerLemmas.{Holds, total, none_holds, before_holds, alone_holds}}
+use Rattle.tz_zone.proofs.{ChoiceLemmas.{AreApart, choose_first, choose_second, choose_third, chosen_first, chosen_second, chosen_third}, PlaceLemmas.{ended_false, ended_true, not_ended, is_ended, ahead_false, ahead_true, not_ahead, is_before}, SetLemmas.{count_same, span_offset}, AnswerLemmas.{Holds, total, none_holds, before_holds, alone_holds}}
 
-choice : Bool → Bool → Ordering
-choice a b = cond a Less (cond b Greater Equal)
-
-neither : (a b : Bool) → cond a Less (cond b Greater Equal) ≡ Equal → (a ≡ false) × (b ≡ false)
-neither true b e = absurd (cc)
-neither false true e = absurd (cc)
-neither false false e = (refl, refl)
-
-the_first : (a b : Bool) → cond a Less (cond b Greater Equal) ≡ Less → a ≡ true
-the_first true b e = refl
-the_first false true e = cc
-the_first false false e = cc
-
-the_second : (a b : Bool) → cond a Less (cond b Greater Equal) ≡ Greater → (a ≡ false) × (b ≡ true)
-the_second true b e = absurd (cc)
-the_second false true e = (refl, refl)
-the_second false false e = absurd (cc)
-
-at_first : (a b : Bool) → a ≡ true → cond a Less (cond b Greater Equal) ≡ Less
-at_first a b e = ap (λ t. cond t Less (cond b Greater Equal)) e
-
-at_second : (a b : Bool) → a ≡ false → b ≡ true → cond a Less (cond b Greater Equal) ≡ Greater
-at_second a b e f = ap (λ t. cond t Less (cond b Greater Equal)) e ∙ ap (λ t. cond t Greater Equal) f
-
-at_neither : (a b : Bool) → a ≡ false → b ≡ false → cond a Less (cond b Greater Equal) ≡ Equal
-at_neither a b e f = ap (λ t. cond t Less (cond b Greater Equal)) e ∙ ap (λ t. cond t Greater Equal) f
+apart : AreApart Less Greater Equal
+apart = (λ e. cc, λ e. cc, λ e. cc)
 
 -- a span lies at a local second exactly where it contains it
 pub in_order : (zone : Schedule) (i : ℕ) (x : ℤ) → i ≤ length zone.shifts → order_of zone i x ≡ Equal → IsIn zone.first zone.shifts i x
 in_order zone i x l e =
-    let both = neither (has_ended zone i x) (is_ahead zone i x) e in
+    let both = chosen_third apart (has_ended zone i x) (is_ahead zone i x) e in
     record {
       within = l;
       begun = ahead_false i (local_start zone.shifts i) x both.1;
@@ -46,7 +22,7 @@ in_order zone i x l e =
 
 pub order_in : (zone : Schedule) (i : ℕ) (x : ℤ) → IsIn zone.first zone.shifts i x → order_of zone i x ≡ Equal
 order_in zone i x h =
-    at_neither (has_ended zone i x) (is_ahead zone i x) (not_ended i (length zone.shifts) (local_end zone.first zone.shifts i) x h.lasts)
+    choose_third Less Greater Equal (has_ended zone i x) (is_ahead zone i x) (not_ended i (length zone.shifts) (local_end zone.first zone.shifts i) x h.lasts)
     (not_ahead i (local_start zone.shifts i) x h.begun)
 
 -- the spans of an orderly zone go from before a local second over it to after it
@@ -56,17 +32,17 @@ goes_up zone x n size orderly = record {
   before = λ i j _ l m e.
       let gone =
       ended_true j (length zone.shifts) (local_end zone.first zone.shifts j) x
-      (the_first (has_ended zone j x) (is_ahead zone j x) e) in
-      at_first (has_ended zone i x) (is_ahead zone i x)
+      (chosen_first apart (has_ended zone j x) (is_ahead zone j x) e) in
+      choose_first Less Greater Equal (has_ended zone i x) (is_ahead zone i x)
       (is_ended i (length zone.shifts) (local_end zone.first zone.shifts i) x (omega (arith, gone.0))
       (le_le _ _ _ (orderly.ends i j l gone.0) gone.1));
   after = λ i j _ l m e.
-      let both = the_second (has_ended zone i x) (is_ahead zone i x) e in
+      let both = chosen_second apart (has_ended zone i x) (is_ahead zone i x) e in
       let ahead = ahead_true i (local_start zone.shifts i) x both.1 in
       let not_gone : j < length zone.shifts → x <ℤ local_end zone.first zone.shifts j =
       λ k. lt_le _ _ _ (ended_false i (length zone.shifts) (local_end zone.first zone.shifts i) x both.0 (omega arith))
       (orderly.ends i j l k) in
-      at_second (has_ended zone j x) (is_ahead zone j x)
+      choose_second Less Greater Equal (has_ended zone j x) (is_ahead zone j x)
       (not_ended j (length zone.shifts) (local_end zone.first zone.shifts j) x not_gone)
       (is_before j (local_start zone.shifts j) x (omega (arith, ahead.0))
       (lt_le _ _ _ ahead.1 (orderly.starts i j ahead.0 l (omega (arith, m, size)))));
@@ -117,7 +93,7 @@ module _ (set : FixedTimespanSet) (accepted : IsAccepted (schedule_of set)) (low
   gone : (k : ℕ) → k < low → order_of zone k s ≡ Less
   gone k l =
       let inside : k < length zone.shifts = omega (arith, l, near.order, near.within) in
-      at_first (has_ended zone k s) (is_ahead zone k s)
+      choose_first Less Greater Equal (has_ended zone k s) (is_ahead zone k s)
       (is_ended k (length zone.shifts) (local_end zone.first zone.shifts k) s inside
       (omega (arith, ints, near.before k l, offset_greatest (total_of_span set k) (offset k (omega (arith, inside))))))
 
@@ -126,7 +102,7 @@ module _ (set : FixedTimespanSet) (accepted : IsAccepted (schedule_of set)) (low
   to_come (suc k) l m =
       let late = near.after k (omega (arith, l)) (omega (arith, m)) in
       let small = offset_least (total_of_span set (suc k)) (offset (suc k) m) in
-      at_second (has_ended zone (suc k) s) (is_ahead zone (suc k) s)
+      choose_second Less Greater Equal (has_ended zone (suc k) s) (is_ahead zone (suc k) s)
       (not_ended (suc k) (length zone.shifts) (local_end zone.first zone.shifts (suc k)) s
       (λ n. omega (arith, ints, late, small, accepted.times k (suc k) (omega arith) n)))
       (is_before (suc k) (local_start zone.shifts (suc k)) s (omega arith) (omega (arith, ints, late, small)))

@@ -1,4 +1,5 @@
-use Rattle.std.proofs.{Common.{◌-◌, w64, SFits, arith, rules, sym, ◌∙◌}, lemmas.Int.{to_z-of_z}}
+use borrow.Author.Rules.{to_z-of_z_to}
+use Rattle.std.proofs.Common.{◌-◌, w64, arith, rules, sym, ◌∙◌}
 use Rattle.basics.specs.ComparisonLaws.{le_same}
 use Rattle.tz_zone.{proofs.SetLemmas.{count_same}, specs.Sets.{schedule_of}, proofs.OrderLemmas.{if_false}, proofs.OrderlyLemmas.{orderly_more, neighbours_go}}
 use Rattle.tz_zone.proofs.set.is_orderly.Goals as goal
@@ -6,19 +7,14 @@ use Rattle.tz_zone.proofs.set.is_orderly.Goals as goal
 pub returns-then-not-are_in_order : goal.returns-then-not-are_in_order
 returns-then-not-are_in_order c =
     let zone = schedule_of c.args.set.now in
-    let i = c.loop-i.i in
-    let fa : SFits w64 c.start_of-start.result = search rules in
-    let fb : SFits w64 c.start_of-next_start.result = search rules in
-    let fc : SFits w64 c.end_of-last_end.result = search rules in
-    let fd : SFits w64 c.end_of-end.result = search rules in
-    let a = to_z-of_z w64 _ fa ∙ c.start_of-start.ensures in
-    let b = to_z-of_z w64 _ fb ∙ c.start_of-next_start.ensures in
-    let p = to_z-of_z w64 _ fc ∙ c.end_of-last_end.ensures in
-    let q = to_z-of_z w64 _ fd ∙ c.end_of-end.ensures in (
+    let a = to_z-of_z_to w64 c.start_of-start.result _ (search rules) c.start_of-start.ensures in
+    let b = to_z-of_z_to w64 c.start_of-next_start.result _ (search rules) c.start_of-next_start.ensures in
+    let p = to_z-of_z_to w64 c.end_of-last_end.result _ (search rules) c.end_of-last_end.ensures in
+    let q = to_z-of_z_to w64 c.end_of-end.result _ (search rules) c.end_of-end.ensures in (
       (λ no. absurd (cc)),
       (λ orderly.
           let go =
-          neighbours_go zone.first zone.shifts (i - 1) i (omega arith)
+          neighbours_go zone.first zone.shifts (c.loop-i.i - 1) c.loop-i.i (omega arith)
           (omega (arith, count_same c.args.set.now, c.entry_count-i-end.ensures)) orderly in
           absurd (if_false c.are_in_order.result c.are_in_order.ensures.1 c.if-not-are_in_order.true
           (le_same _ _ _ _ a b go.0, le_same _ _ _ _ p q go.1, le_same _ _ _ _ p b go.2))),
@@ -27,15 +23,10 @@ returns-then-not-are_in_order c =
 pub loop-i-preserved : goal.loop-i-preserved
 loop-i-preserved c =
     let zone = schedule_of c.args.set.now in
-    let i = c.loop-i.i in
-    let fa : SFits w64 c.start_of-start.result = search rules in
-    let fb : SFits w64 c.start_of-next_start.result = search rules in
-    let fc : SFits w64 c.end_of-last_end.result = search rules in
-    let fd : SFits w64 c.end_of-end.result = search rules in
-    let a = to_z-of_z w64 _ fa ∙ c.start_of-start.ensures in
-    let b = to_z-of_z w64 _ fb ∙ c.start_of-next_start.ensures in
-    let p = to_z-of_z w64 _ fc ∙ c.end_of-last_end.ensures in
-    let q = to_z-of_z w64 _ fd ∙ c.end_of-end.ensures in
+    let a = to_z-of_z_to w64 c.start_of-start.result _ (search rules) c.start_of-start.ensures in
+    let b = to_z-of_z_to w64 c.start_of-next_start.result _ (search rules) c.start_of-next_start.ensures in
+    let p = to_z-of_z_to w64 c.end_of-last_end.result _ (search rules) c.end_of-last_end.ensures in
+    let q = to_z-of_z_to w64 c.end_of-end.result _ (search rules) c.end_of-end.ensures in
     let go = c.are_in_order.ensures.0 c.if-not-are_in_order.false in
-    orderly_more zone.first zone.shifts (i - 1) i (omega arith) c.loop-i.invariant
+    orderly_more zone.first zone.shifts (c.loop-i.i - 1) c.loop-i.i (omega arith) c.loop-i.invariant
     (le_same _ _ _ _ (sym a) (sym b) go.0) (le_same _ _ _ _ (sym p) (sym q) go.1) (le_same _ _ _ _ (sym p) (sym b) go.2)

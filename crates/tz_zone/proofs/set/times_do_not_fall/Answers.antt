@@ -1,4 +1,5 @@
-use Rattle.std.proofs.{Common.{◌≡◌, ℤ, ◌-◌, ◌≤ℤ◌, w64, SFits, arith, rules, ◌∙◌, int_lt, true, false}, lemmas.Int.{to_z-of_z, ints}}
+use borrow.Author.Rules.{to_z-of_z_to}
+use Rattle.std.proofs.{Common.{◌≡◌, ℤ, ◌-◌, ◌≤ℤ◌, w64, arith, rules, int_lt, true, false}, lemmas.Int.{ints}}
 use Rattle.tz_zone.{specs.Sets.{shifts_of}, proofs.SetLemmas.{count_same, no_fall_more}}
 use Rattle.tz_zone.proofs.set.times_do_not_fall.Goals as goal
 
@@ -11,10 +12,8 @@ fell x y a b e f h k = grind (arith, ints)
 pub returns-then-time : goal.returns-then-time
 returns-then-time c =
     let i = c.loop-i.i in
-    let fa : SFits w64 c.time.result = search rules in
-    let fb : SFits w64 c.time-in-loop-i.result = search rules in
-    let a = to_z-of_z w64 _ fa ∙ c.time.ensures in
-    let b = to_z-of_z w64 _ fb ∙ c.time-in-loop-i.ensures in
+    let a = to_z-of_z_to w64 c.time.result _ (search rules) c.time.ensures in
+    let b = to_z-of_z_to w64 c.time-in-loop-i.result _ (search rules) c.time-in-loop-i.ensures in
     let count = count_same c.args.set.now in (
       (λ no. absurd (cc)),
       (λ h. absurd (fell _ _ _ _ a b c.if-time.true
@@ -24,8 +23,6 @@ returns-then-time c =
 pub loop-i-preserved : goal.loop-i-preserved
 loop-i-preserved c =
     let i = c.loop-i.i in
-    let fa : SFits w64 c.time.result = search rules in
-    let fb : SFits w64 c.time-in-loop-i.result = search rules in
-    let a = to_z-of_z w64 _ fa ∙ c.time.ensures in
-    let b = to_z-of_z w64 _ fb ∙ c.time-in-loop-i.ensures in
+    let a = to_z-of_z_to w64 c.time.result _ (search rules) c.time.ensures in
+    let b = to_z-of_z_to w64 c.time-in-loop-i.result _ (search rules) c.time-in-loop-i.ensures in
     no_fall_more (shifts_of c.args.set.now) (i - 1) i (omega arith) c.loop-i.invariant (le_from _ _ _ _ a b c.if-time.false)
