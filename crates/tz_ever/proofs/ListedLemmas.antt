@@ -1,9 +1,9 @@
 -- What an entry of the list puts in force from its second on.
-use Rattle.std.proofs.{Common.{◌≡◌, ℕ, suc, ◌<◌, ℤ, pos, ◌*ℤ◌, ◌≤ℤ◌, ◌<ℤ◌, length, get_or, sym, ap, ◌∙◌, subst, arith}, lemmas.List.{length-map}}
+use Rattle.std.proofs.{Common.{◌≡◌, ℕ, suc, ◌<◌, ℤ, pos, ◌≤ℤ◌, ◌<ℤ◌, length, sym, ap, ◌∙◌, subst, arith}, lemmas.List.{length-map}}
 use Rattle.basics.specs.{ComparisonLaws.{lt_le}, SignedLaws.{signed}}
 use Rattle.civil_base.specs.Instants.{nanos_of, seconds_of}
 use Rattle.zone_spans.specs.Entries.{Entry}
-use Rattle.tz_zone.specs.{Compiles.{spans_of}, SecondLaws.{IsSecond, one_second, second_is}, Sets.{IsAccepted, schedule_of, shift_of, shifts_of}, Spans.{Shift, TimesDontFall, shift_at}, declared.set.FixedTimespanSet.{FixedTimespanSet}}
+use Rattle.tz_zone.specs.{Compiles.{spans_of}, SecondLaws.{one_second, second_is}, Sets.{IsAccepted, schedule_of, shift_of, shifts_of}, Spans.{Shift, TimesDontFall, shift_at}, declared.set.FixedTimespanSet.{FixedTimespanSet}}
 use Rattle.tz_ever.{specs.InForce.{span_at}, specs.Unrolled.{IsLastThere, unrolled, unrolled_end}, proofs.CutLemmas.{in_force-is}, proofs.TableLemmas.{shift_read}, proofs.UnrolledShows.{climb_at, set_climbs, unrolled_climbs}}
 
 begins_at : (s : ℤ) → seconds_of (nanos_of s) ≡ s

@@ -1,16 +1,24 @@
 //! A zone that goes on for ever, as a time zone.
-ghost use Rattle.std.specs.Prelude.{◌≡◌, ℤ, ◌≤◌, length, int_lt, pos};
-ghost use Rattle.civil_base.specs.Ranges.{IsOffset};
+ghost use Rattle.std.specs.Prelude.{◌≡◌, ℤ, ◌≤◌, ◌%◌, ◌*ℤ◌, ◌≤ℤ◌, length, not, int_lt, pos, unsigned_abs};
+ghost use Rattle.civil_base.specs.{Clock.{nanos_per_day}, DateTimes.{local_of, offset_of}, Julian.{day_of_julian}, Ranges.{IsDay, IsOffset}};
 ghost use Rattle.zone_spans.specs.{Entries.{total}, Schedules.{instants}};
 ghost use Rattle.tz_zone.specs.Sets.{schedule_of, IsOrderlyZone};
 ghost use Rattle.tz_lookup.specs.CompactZones.{compact_of};
-ghost use Rattle.tz_ever.specs.Ever.{GivesEver, IsRepeating, ever_left, ever_total};
+ghost use Rattle.tz_ever.specs.{Ever.{GivesEver, IsRepeating, ever_left, ever_total}, Seam.{brought_back, next_seam, next_seam_day, seam_day}};
 
-use crate::bring::{brought_back, local_brought_back};
 use crate::ever_set::EverSet;
-use civil_base::{OffsetDateTime, PlainDateTime};
+use civil_base::{Date, OffsetDateTime, PlainDateTime};
 use tz_lookup::{AllInstants, CompactOffset, CompactTz, OffsetResult, TimeZone};
 use tz_zone::SpanCursor;
+
+/// The Julian day of 2102-01-01.
+const SEAM_DAY: i32 = 2_488_800;
+
+/// The Julian day of 2502-01-01.
+const NEXT_SEAM_DAY: i32 = 2_634_897;
+
+/// The days of 400 years.
+const CYCLE_DAYS: i32 = 146_097;
 
 /// The zone of an [`EverSet`], which it borrows. From 2502 on an instant and a local time are brought back by whole cycles of 400
 /// years, at the cost of a division.
@@ -114,4 +122,80 @@ fn known<T: TimeZone>(zone: &T)
     ensures two { T.orderly zone.now → (time : ℤ) → length (instants (T.total_at zone.now) time) ≤ 2 }
 {
     let _ = zone;
+}
+
+/// Whether a date lies in 2502 or later.
+fn is_past(date: Date) -> bool
+    ensures { result ≡ not (int_lt date next_seam_day) }
+{
+    date.to_julian_day() >= NEXT_SEAM_DAY
+}
+
+/// A date-time some whole cycles before, at the same offset; the same one in the years up to 2501.
+fn brought_back(date_time: &OffsetDateTime) -> OffsetDateTime
+    ensures local { local_of result ≡ brought_back (local_of date_time.now) }
+    ensures offset { offset_of result ≡ offset_of date_time.now }
+    ensures range { IsOffset (offset_of date_time.now) }
+{
+    // Read for what it says of every offset: that it is in range.
+    let _in_range = date_time.offset().whole_seconds();
+    if is_past(date_time.date()) {
+        in_cycle(local_of(date_time)).assume_offset(date_time.offset())
+    } else {
+        *date_time
+    }
+}
+
+/// A local time some whole cycles before; the same one in the years up to 2501.
+fn local_brought_back(local: &PlainDateTime) -> PlainDateTime
+    ensures { result ≡ brought_back local.now }
+{
+    if is_past(local.date()) {
+        in_cycle(*local)
+    } else {
+        *local
+    }
+}
+
+/// The date and the time of a date-time.
+fn local_of(date_time: &OffsetDateTime) -> PlainDateTime
+    ensures { result ≡ local_of date_time.now }
+{
+    PlainDateTime::new(date_time.date(), date_time.time())
+}
+
+/// A later local time, brought back.
+fn in_cycle(local: PlainDateTime) -> PlainDateTime
+    requires { next_seam ≤ℤ local }
+    ensures { result ≡ brought_back local }
+{
+    PlainDateTime::new(date_in_cycle(local.date()), local.time())
+}
+
+fn date_in_cycle(date: Date) -> Date
+    requires years { IsDay date }
+    requires begun { seam_day ≤ℤ date }
+    ensures { result *ℤ pos nanos_per_day ≡ brought_back (date *ℤ pos nanos_per_day) }
+{
+    match Date::from_julian_day(julian_in_cycle(date.to_julian_day())) {
+        Ok(earlier) => earlier,
+        Err(_) => unreachable!(),
+    }
+}
+
+fn julian_in_cycle(day: i32) -> i32
+    requires years { IsDay (day_of_julian day) }
+    requires begun { seam_day ≤ℤ day_of_julian day }
+    ensures value { day_of_julian result *ℤ pos nanos_per_day ≡ brought_back (day_of_julian day *ℤ pos nanos_per_day) }
+    ensures years { IsDay (day_of_julian result) }
+{
+    SEAM_DAY + day_of_cycle(day - SEAM_DAY)
+}
+
+/// Days, without the whole cycles in them.
+fn day_of_cycle(days: i32) -> i32
+    requires { pos 0 ≤ℤ days }
+    ensures { result ≡ pos (unsigned_abs days % 146097) }
+{
+    days % CYCLE_DAYS
 }

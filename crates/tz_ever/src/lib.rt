@@ -2,7 +2,6 @@
 //! instant.
 #![tactic(auto)]
 
-mod bring;
 pub mod cycle;
 mod ever_set;
 mod ever_table;

@@ -1,6 +1,6 @@
 use Rattle.std.proofs.Common.{ap, sym, ◌∙◌, int_lt, not}
 use Rattle.tz_ever.{specs.Seam.{next_seam_day}, proofs.SeamLemmas.{is_early, is_past}}
-use Rattle.tz_ever.proofs.bring.local_brought_back.Goals as goal
+use Rattle.tz_ever.proofs.ever_tz.local_brought_back.Goals as goal
 
 pub in_cycle-requires : goal.in_cycle-requires
 in_cycle-requires c =

@@ -1,7 +1,7 @@
 use Rattle.std.proofs.Common.{ap, sym, ◌∙◌, int_lt, not, subst, ◌≤ℤ◌}
 use Rattle.civil_base.specs.DateTimes.{local_of}
 use Rattle.tz_ever.{specs.Seam.{brought_back, next_seam, next_seam_day}, proofs.SeamLemmas.{is_early, is_past}}
-use Rattle.tz_ever.proofs.bring.brought_back.Goals as goal
+use Rattle.tz_ever.proofs.ever_tz.brought_back.Goals as goal
 
 pub in_cycle-requires : goal.in_cycle-requires
 in_cycle-requires c =

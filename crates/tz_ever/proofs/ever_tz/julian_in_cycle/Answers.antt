@@ -2,7 +2,7 @@ use Rattle.std.proofs.Common.{◌≡◌, arith, pos, ◌-ℤ◌, ◌+ℤ◌, ◌
 use Rattle.basics.specs.SignedLaws.{signed, signed_casts, natural}
 use Rattle.civil_base.specs.{Clock.{nanos_per_day}, Julian.{day_of_julian}}
 use Rattle.tz_ever.{specs.Seam.{seam_day}, proofs.SeamLemmas.{day_back}}
-use Rattle.tz_ever.proofs.bring.julian_in_cycle.Goals as goal
+use Rattle.tz_ever.proofs.ever_tz.julian_in_cycle.Goals as goal
 
 pub returns-clause-value : goal.returns-clause-value
 returns-clause-value c =

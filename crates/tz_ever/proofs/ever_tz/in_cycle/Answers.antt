@@ -1,7 +1,7 @@
 use Rattle.std.proofs.Common.{pos, ◌+ℤ◌, ◌*ℤ◌, ◌≤ℤ◌, ap, sym, ◌∙◌, subst}
 use Rattle.civil_base.specs.{Clock.{nanos_per_day}, Layout.{day_part, time_part}, PartLaws.{parts-joined, time_part-inside}}
 use Rattle.tz_ever.{specs.Seam.{brought_back, seam_day}, proofs.SeamLemmas.{at_time, day_begun}}
-use Rattle.tz_ever.proofs.bring.in_cycle.Goals as goal
+use Rattle.tz_ever.proofs.ever_tz.in_cycle.Goals as goal
 
 pub date_in_cycle-requires-clause-begun : goal.date_in_cycle-requires-clause-begun
 date_in_cycle-requires-clause-begun c = subst (λ d. seam_day ≤ℤ d) (sym c.date.ensures.value) (day_begun c.args.local c.requires)

@@ -1,6 +1,6 @@
 use Rattle.std.proofs.Common.{pos, ◌+ℤ◌, ◌*ℤ◌, ap, ◌∙◌}
 use Rattle.civil_base.specs.{Clock.{nanos_per_day}, DateTimes.{local_of}, Layout.{day_part}, PartLaws.{parts-joined}}
-use Rattle.tz_ever.proofs.bring.local_of.Goals as goal
+use Rattle.tz_ever.proofs.ever_tz.local_of.Goals as goal
 
 pub returns : goal.returns
 returns c =
