@@ -1,32 +1,22 @@
 -- The number that stands for a configuration.
 use Rattle.std.specs.{Prelude.{◌≡◌, ℕ, Bool, true, false, List, [], ◌∷◌, Option, Some, None, IfSome}, Int.{w128, from_be_bytes}}
-use Rattle.civil_items.specs.{Digits.{digit_count}, declared.digits.Digits.{Digits}, declared.config.Config.{Config}, declared.iso8601.FormattedComponents.{FormattedComponents}}
-use Rattle.civil_items.specs.declared.iso8601.{FormattedComponents.TheVariants.{None as Nothing, Date, Time, Offset, DateTime, DateTimeOffset, TimeOffset}, DateKind.{DateKind}, DateKind.TheVariants.{Calendar, Week, Ordinal}, TimePrecision.{TimePrecision}}
-use Rattle.civil_items.specs.declared.iso8601.{TimePrecision.TheVariants.{Hour, Minute, Second}, OffsetPrecision.{OffsetPrecision}, OffsetPrecision.TheVariants.{Hour as ToHours, Minute as ToMinutes}}
+use denote.Enum.Declared.{tag_of as place_among}
+use Rattle.civil_items.specs.{Digits.{digit_count}, declared.digits.Digits.{Digits}, declared.config.Config.{Config}}
+use Rattle.civil_items.specs.contracts.iso8601.{FormattedComponents.{the_type as all_components}, DateKind.{the_type as kinds}, TimePrecision.{the_type as units}, OffsetPrecision.{the_type as precisions}}
+use Rattle.civil_items.specs.declared.iso8601.{FormattedComponents.{FormattedComponents}, DateKind.{DateKind}, TimePrecision.{TimePrecision}, TimePrecision.TheVariants.{Hour, Minute, Second}, OffsetPrecision.{OffsetPrecision}}
 
--- the places of the parts in their order
+-- the places of the variants, from 0
 abbrev pub components_place : FormattedComponents → ℕ
-components_place Nothing = 0
-components_place Date = 1
-components_place Time = 2
-components_place Offset = 3
-components_place DateTime = 4
-components_place DateTimeOffset = 5
-components_place TimeOffset = 6
+components_place components = place_among all_components components
 
 abbrev pub kind_place : DateKind → ℕ
-kind_place Calendar = 0
-kind_place Week = 1
-kind_place Ordinal = 2
+kind_place kind = place_among kinds kind
 
 abbrev pub unit_place : TimePrecision → ℕ
-unit_place (Hour _) = 0
-unit_place (Minute _) = 1
-unit_place (Second _) = 2
+unit_place precision = place_among units precision
 
 abbrev pub precision_place : OffsetPrecision → ℕ
-precision_place ToHours = 0
-precision_place ToMinutes = 1
+precision_place precision = place_among precisions precision
 
 abbrev pub flag : Bool → ℕ
 flag false = 0

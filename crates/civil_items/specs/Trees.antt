@@ -1,6 +1,7 @@
 -- The trees of format items.
 use Rattle.std.specs.Prelude.{ℕ, Bool, true, false, ◌&&◌, List, [], ◌∷◌, bytes_eq, nat_eq, Result, Ok, Err}
-use Rattle.civil_items.specs.declared.{error.DifferentVariant.{DifferentVariant}, format_item.Component.{Component}, format_item.Component.TheVariants.{Year, Month, Day, Hour, Minute, Second, Subsecond, OffsetHour, OffsetMinute, OffsetSecond}}
+use denote.Enum.Declared.{tag_of as place_among}
+use Rattle.civil_items.specs.{contracts.format_item.Component.{the_type as components}, declared.error.DifferentVariant.{DifferentVariant}, declared.format_item.Component.{Component}}
 
 mutual
   pub data Tree : Type 0 where
@@ -33,18 +34,9 @@ abbrev mutual
   all_plain no_trees = no_trees
   all_plain (tree t ts) = tree (plain t) (all_plain ts)
 
--- the place of a component in their order
+-- the place of a component among the variants, from 0
 abbrev pub component_place : Component → ℕ
-component_place Year = 0
-component_place Month = 1
-component_place Day = 2
-component_place Hour = 3
-component_place Minute = 4
-component_place Second = 5
-component_place Subsecond = 6
-component_place OffsetHour = 7
-component_place OffsetMinute = 8
-component_place OffsetSecond = 9
+component_place part = place_among components part
 
 -- whether two trees are the same
 abbrev mutual
