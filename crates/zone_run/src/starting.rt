@@ -7,24 +7,23 @@ use crate::running::run_program;
 use std::alloc::Global;
 use std::marker::PhantomData;
 use zone_line::LineParser;
-use zone_source::{Shelf, Sink, Source, SourceProgram, Started, Status, start_source_run};
+use zone_source::{FilesProgram, Shelf, Sink, Started, Status, start_files_run};
 
-/// A program over a file and a zone, as one over source text.
+/// A program over a file and a zone, as one that reads files.
 struct OverZone<P> {
     program: PhantomData<P>,
 }
 
-impl<P: ZoneProgram> SourceProgram for OverZone<P> {
-    ghost use Rattle.zone_run.specs.Starts.{zone_run};
+impl<P: ZoneProgram> FilesProgram for OverZone<P> {
+    ghost use Rattle.zone_run.specs.{Ends.{EndsWith}, Tasks.{task_of}};
 
-    ghost ends = { zone_run P.Zone.read P.label P.form };
+    ghost ends = { λ words. EndsWith P.Zone.read P.label (task_of P.form words) };
 
-    fn run<H: Shelf, I: Source, O: Sink>(
+    fn run<H: Shelf, O: Sink>(
         alloc: Global,
         parser: &LineParser,
         words: &[String],
         shelf: &mut H,
-        _input: &mut I,
         output: &mut O,
     ) -> Status {
         run_program::<P, H, O>(alloc, parser, words, shelf, output)
@@ -36,5 +35,5 @@ impl<P: ZoneProgram> SourceProgram for OverZone<P> {
 pub fn start_program<P: ZoneProgram>(rt: HostRuntime) -> Started
     ensures { StartsWith P.Zone.read P.label P.form result }
 {
-    start_source_run::<OverZone<P>>(rt)
+    start_files_run::<OverZone<P>>(rt)
 }

@@ -22,11 +22,14 @@ pub use error::{BuildKind, SourceError};
 pub use fault_line::{FaultText, write_fault_line};
 pub use laws::names_itself;
 pub use lines::{LineList, Lines, text_of};
-pub use one_file::{FileProgram, run_file, start_file};
+pub use no_input::NoInput;
+pub use one_file::{FileProgram, FilesProgram, run_file, start_file, start_files_run};
 pub use release::{put_release_line, release_of};
 pub use response::{Response, fault_bytes, source_fault_bytes};
 pub use running::{Answered, FileTask, Status, TextAnswers, run_over, run_task, run_task_surely};
-pub use starting::{BareProgram, SourceProgram, Started, start_run, start_source_run};
+pub use starting::{
+    BareProgram, SourceProgram, Started, after_name, all_words, start_run, start_source_run,
+};
 pub use table::read_table;
 pub use words::file_named;
 pub use zone_outside::{

@@ -5,7 +5,7 @@ use zone_outside::{Failed, Source};
 
 /// An input that holds nothing, and never fails.
 #[derive(Drop)]
-pub(crate) struct NoInput;
+pub struct NoInput;
 
 impl Source for NoInput {
     ghost left = { λ _. Some [] };

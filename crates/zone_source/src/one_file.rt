@@ -1,6 +1,6 @@
-//! Programs over one file, which their words name.
+//! Programs that read files and no input, and of these those over one file, which their words name.
 ghost use Rattle.std.specs.{Prelude.{◌≡◌, ◌≤◌, ℕ, List, Option, length, option_map}, Option.{ForSome}};
-ghost use Rattle.zone_source.specs.{FileWords.{file_of}, OneFile.{file_run, file_work}, Responses.{IsResponse}, Runs.{EndsOf, seen}, Starts.{Starts}};
+ghost use Rattle.zone_source.specs.{FileWords.{file_of}, OneFile.{file_run, file_work}, Responses.{IsResponse}, Runs.{EndsOf, seen}, Starts.{Run, Starts, over_file}};
 
 use crate::response::Response;
 use crate::running::{FileTask, Status, run_task};
@@ -10,6 +10,53 @@ use std::alloc::{AllocError, Global};
 use std::marker::PhantomData;
 use zone_line::LineParser;
 use zone_outside::{LIMIT, Shelf, Sink, Source};
+
+/// A program that reads source text and no input: what it makes of its words, over whatever shelf and output.
+pub trait FilesProgram {
+    /// How its run ends, without an input.
+    ghost ends: { Run };
+
+    /// Its run with these words, which are those after the program's own name.
+    fn run<H: Shelf, O: Sink>(
+        alloc: Global,
+        parser: &LineParser,
+        words: &[String],
+        shelf: &mut H,
+        output: &mut O,
+    ) -> Status
+        requires { (name : List ℕ) → H.open_to shelf.old name }
+        ensures { ends words.now
+            (seen H.Source O.Sink shelf.old output.old) (seen H.Source O.Sink shelf.new output.new) result };
+}
+
+/// Such a program beside an input, which it leaves alone.
+struct BesideInput<P> {
+    program: PhantomData<P>,
+}
+
+impl<P: FilesProgram> SourceProgram for BesideInput<P> {
+    ghost use Rattle.zone_source.specs.Starts.{over_file};
+
+    ghost ends = { over_file P.ends };
+
+    fn run<H: Shelf, I: Source, O: Sink>(
+        alloc: Global,
+        parser: &LineParser,
+        words: &[String],
+        shelf: &mut H,
+        _input: &mut I,
+        output: &mut O,
+    ) -> Status {
+        P::run::<H, O>(alloc, parser, words, shelf, output)
+    }
+}
+
+/// The whole of a program that reads source text and no input, with the exit statuses of any over source text.
+pub fn start_files_run<P: FilesProgram>(rt: HostRuntime) -> Started
+    ensures { Starts (over_file P.ends) result }
+{
+    start_source_run::<BesideInput<P>>(rt)
+}
 
 /// A program whose words name one file: what it makes of the source there.
 pub trait FileProgram {
@@ -92,22 +139,21 @@ pub fn run_file<P: FileProgram, H: Shelf, O: Sink>(
     run_task(alloc, parser, read_task::<P>(words), shelf, output)
 }
 
-/// The program, as one over source text.
+/// The program, as one that reads files.
 struct OverFile<P> {
     program: PhantomData<P>,
 }
 
-impl<P: FileProgram> SourceProgram for OverFile<P> {
-    ghost use Rattle.zone_source.specs.OneFile.{file_run};
+impl<P: FileProgram> FilesProgram for OverFile<P> {
+    ghost use Rattle.zone_source.specs.{FileWords.{file_of}, OneFile.{file_work}, Runs.{EndsOf}};
 
-    ghost ends = { file_run P.cause P.due };
+    ghost ends = { λ words. EndsOf (file_work P.cause P.due) (file_of words) };
 
-    fn run<H: Shelf, I: Source, O: Sink>(
+    fn run<H: Shelf, O: Sink>(
         alloc: Global,
         parser: &LineParser,
         words: &[String],
         shelf: &mut H,
-        _input: &mut I,
         output: &mut O,
     ) -> Status {
         run_file::<P, H, O>(alloc, parser, words, shelf, output)
@@ -119,5 +165,5 @@ impl<P: FileProgram> SourceProgram for OverFile<P> {
 pub fn start_file<P: FileProgram>(rt: HostRuntime) -> Started
     ensures { Starts (file_run P.cause P.due) result }
 {
-    start_source_run::<OverFile<P>>(rt)
+    start_files_run::<OverFile<P>>(rt)
 }

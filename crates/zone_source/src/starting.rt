@@ -147,7 +147,7 @@ fn ended_by(status: u8) -> Started
 }
 
 /// The words after the first one, which is the program's own name.
-fn after_name(all: &[String]) -> &[String]
+pub fn after_name(all: &[String]) -> &[String]
     ensures { result.now ≡ words_after all.now }
 {
     match all {
@@ -157,7 +157,7 @@ fn after_name(all: &[String]) -> &[String]
 }
 
 /// All words of the process, or none, where they can't be taken from the system or memory runs out.
-fn all_words(rt: &HostRuntime) -> Option<Vec<String>> {
+pub fn all_words(rt: &HostRuntime) -> Option<Vec<String>> {
     let Ok(words) = env::args(rt) else {
         return None;
     };
