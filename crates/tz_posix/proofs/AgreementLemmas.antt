@@ -10,6 +10,16 @@ use Rattle.tz_posix.specs.InForce.{YearlyTime, instant_in, is_saving, is_within,
 use Rattle.tz_posix.proofs.{TwoRuleSetLemmas.{IsExpandable}, TwoRuleFiringLemmas.{wall_moment}, HemisphereLemmas.{savings_differ}, NamedDayLemmas.{named_day-is, never_outside}}
 use Rattle.tz_posix.proofs.StandardYearLemmas.{ArePlaces, IsNear, applies_from, are_places, earlier_year, near-counted, near_year, not_before, place_in, place_in-is, rule_year, year_at-is, years_before}
 
+-- how many years the rules have, and the start and the end of the i-th of them
+abbrev pub year_count : TwoRuleZone → ℕ
+year_count zone = 300 - years_before zone.from
+
+abbrev pub ith_start : TwoRuleZone → ℕ → ℤ
+ith_start zone i = start_in zone (year_from (years_before zone.from) i)
+
+abbrev pub ith_end : TwoRuleZone → ℕ → ℤ
+ith_end zone i = end_in zone (year_from (years_before zone.from) i)
+
 -- ---- what is compiled
 
 same_set : (fault : Option SpanFault) (result : Result FixedTimespanSet SpanFault) (set : FixedTimespanSet)

@@ -213,19 +213,15 @@ module _ (zone : TwoRuleZone) (c : AreInnerRules zone) where
   northern_gap : month_number zone.start.month + 2 ≤ month_number zone.end.month → (y : ℤ) → IsRuleYear zone.from y
       → (start_in zone y +ℤ p) <ℤ end_in zone y
   northern_gap months y year =
-      let start = start_into y year in
-      let end = end_into y year in
-      let days = later_days y (month_number zone.start.month) (month_number zone.end.month) start.0 end.0 months start.1.before end.1.from in
-      gap_of_days y start.0 end.0 zone.start.time zone.end.time _ _ o (pos 0) p (start-placed y year) (end-placed y year) days
+      let days = later_days y (month_number zone.start.month) (month_number zone.end.month) (start_into y year).0 (end_into y year).0 months (start_into y year).1.before (end_into y year).1.from in
+      gap_of_days y (start_into y year).0 (end_into y year).0 zone.start.time zone.end.time _ _ o (pos 0) p (start-placed y year) (end-placed y year) days
       c.start_time.greatest c.end_time.least p c.saving_small c.saving_small (omega (arith, signed))
 
   southern_gap : month_number zone.end.month + 2 ≤ month_number zone.start.month → (y : ℤ) → IsRuleYear zone.from y
       → (end_in zone y +ℤ p) <ℤ start_in zone y
   southern_gap months y year =
-      let start = start_into y year in
-      let end = end_into y year in
-      let days = later_days y (month_number zone.end.month) (month_number zone.start.month) end.0 start.0 months end.1.before start.1.from in
-      gap_of_days y end.0 start.0 zone.end.time zone.start.time _ _ o p (pos 0) (end-placed y year) (start-placed y year) days
+      let days = later_days y (month_number zone.end.month) (month_number zone.start.month) (end_into y year).0 (start_into y year).0 months (end_into y year).1.before (start_into y year).1.from in
+      gap_of_days y (end_into y year).0 (start_into y year).0 zone.end.time zone.start.time _ _ o p (pos 0) (end-placed y year) (start-placed y year) days
       c.end_time.greatest c.start_time.least p c.saving_small (omega (arith, signed)) (omega (arith, signed, c.saving))
 
   -- the start's month comes first

@@ -40,18 +40,7 @@ pub record IsNamed (month : Month) (spec : DaySpec) (date : Date) (y : ℤ) : Ty
   pub dated : rule_day date y ≡ day y (month_number month) place
 
 month_number-range : (month : Month) → (1 ≤ month_number month) × (month_number month ≤ 12)
-month_number-range January = (omega arith, omega arith)
-month_number-range February = (omega arith, omega arith)
-month_number-range March = (omega arith, omega arith)
-month_number-range April = (omega arith, omega arith)
-month_number-range May = (omega arith, omega arith)
-month_number-range June = (omega arith, omega arith)
-month_number-range July = (omega arith, omega arith)
-month_number-range August = (omega arith, omega arith)
-month_number-range September = (omega arith, omega arith)
-month_number-range October = (omega arith, omega arith)
-month_number-range November = (omega arith, omega arith)
-month_number-range December = (omega arith, omega arith)
+month_number-range month = grind arith
 
 a_date : (y : ℤ) (month : Month) (d : ℕ) → 1 ≤ d → d ≤ days_in_month y (month_number month) → IsDate y (month_number month) d
 a_date y month d first last = record {
@@ -85,21 +74,27 @@ of_place month w spec date y s l years some is most named dated =
       dated = dated ∙ ap (day y (month_number month)) at.back;
     }
 
+-- each month has 28 days
+in_weeks : (month : Month) (w : Weekday) (spec : DaySpec) (date : Date) (y : ℤ) (s l : ℕ) → IsCountedYear y → 1 ≤ s → l ≡ s + 6 → l ≤ 28
+    → named_day spec y month ≡ first_from (weekday_number w) (day y (month_number month) s)
+    → rule_day date y
+    ≡ day y (month_number month) (last_with (λ d. nat_eq (weekday_of (day y (month_number month) d)) (weekday_number w)) l)
+    → IsNamed month spec date y
+in_weeks month w spec date y s l years some is short named dated =
+    let days = days_in_month-bounds y (month_number month) in
+    of_place month w spec date y s l years some is (omega arith) named dated
+
 pub is_named : (month : Month) (w : Weekday) (spec : DaySpec) (date : Date) (y : ℤ) → IsCountedYear y → IsSameDay month w spec date
     → IsNamed month spec date y
 unfolding named_day rule_day nth_weekday
 is_named month w _ _ y years from_first =
-    let days = days_in_month-bounds y (month_number month) in
-    of_place month w _ _ y 1 7 years (omega arith) refl (omega arith) refl refl
+    in_weeks month w _ _ y 1 7 years (omega arith) refl (omega arith) refl refl
 is_named month w _ _ y years from_eighth =
-    let days = days_in_month-bounds y (month_number month) in
-    of_place month w _ _ y 8 14 years (omega arith) refl (omega arith) refl refl
+    in_weeks month w _ _ y 8 14 years (omega arith) refl (omega arith) refl refl
 is_named month w _ _ y years from_fifteenth =
-    let days = days_in_month-bounds y (month_number month) in
-    of_place month w _ _ y 15 21 years (omega arith) refl (omega arith) refl refl
+    in_weeks month w _ _ y 15 21 years (omega arith) refl (omega arith) refl refl
 is_named month w _ _ y years from_twenty_second =
-    let days = days_in_month-bounds y (month_number month) in
-    of_place month w _ _ y 22 28 years (omega arith) refl (omega arith) refl refl
+    in_weeks month w _ _ y 22 28 years (omega arith) refl (omega arith) refl refl
 is_named month w _ _ y years last_of_month =
     let l = days_in_month y (month_number month) in
     let days = days_in_month-bounds y (month_number month) in

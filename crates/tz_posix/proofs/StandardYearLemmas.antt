@@ -48,27 +48,11 @@ year_at-is o from to s a b inside =
     let year = year_of-is k (omega (arith, signed, first.0)) (omega (arith, signed, last.1)) in
     let y = year_of k in
     let not_below : from ≤ℤ y = by_lt_z y from
-    (λ lt. absurd (omega (
-      arith,
-      signed,
-      low,
-      year.next,
-      year_starts-rise (y +ℤ pos 1) from
-          (record { first = omega (arith, signed, year.counted.first); last = omega (arith, signed, a.last) }) (near-counted from a) (omega (
-            arith,
-            signed,
-          )),
-    )))
-    (λ le. le) in
+    (λ lt. let rise = year_starts-rise (y +ℤ pos 1) from (record { first = omega (arith, signed, year.counted.first); last = omega (arith, signed, a.last) })
+    (near-counted from a) (omega (arith, signed)) in absurd (omega (arith, signed, low, year.next, rise))) (λ le. le) in
     let not_above : y ≤ℤ to = by_lt_z to y
-    (λ lt. absurd (omega (
-      arith,
-      signed,
-      high,
-      year.begun,
-      year_starts-rise (to +ℤ pos 1) y (next-counted to b) year.counted (omega (arith, signed)),
-    )))
-    (λ le. le) in
+    (λ lt. let rise = year_starts-rise (to +ℤ pos 1) y (next-counted to b) year.counted (omega (arith, signed)) in
+    absurd (omega (arith, signed, high, year.begun, rise))) (λ le. le) in
     record {
       first = not_below;
       last = not_above;

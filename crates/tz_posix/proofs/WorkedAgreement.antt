@@ -38,26 +38,22 @@ unfolding
     is_leap days_in_year days_in_month days_after_zero year_start days_through days_into_year day
 worked_changes format = refl
 
-day_2024 : day (pos 2024) 1 1 ≡ pos 19723
+begins : (day (pos 2024) 1 1 ≡ pos 19723) × (day (pos 2025) 1 1 ≡ pos 20089)
 unfolding is_leap days_in_year days_in_month days_after_zero year_start days_through days_into_year day
-day_2024 = refl
-
-day_2025 : day (pos 2025) 1 1 ≡ pos 20089
-unfolding is_leap days_in_year days_in_month days_after_zero year_start days_through days_into_year day
-day_2025 = refl
+begins = (refl, refl)
 
 -- at -5:00 the year 2024 begins at 2024-01-01 05:00 UTC and ends before 2025-01-01 05:00
 worked_first : IsInRuleYears (negsuc 17999) (pos 2024) (pos 2024) (pos 1704085200)
-worked_first = record { begun = omega (arith, signed, day_2024); not_over = omega (arith, signed, day_2025) }
+worked_first = record { begun = omega (arith, signed, begins.0); not_over = omega (arith, signed, begins.1) }
 
 worked_last : IsInRuleYears (negsuc 17999) (pos 2024) (pos 2024) (pos 1735707599)
-worked_last = record { begun = omega (arith, signed, day_2024); not_over = omega (arith, signed, day_2025) }
+worked_last = record { begun = omega (arith, signed, begins.0); not_over = omega (arith, signed, begins.1) }
 
 worked_before : IsInRuleYears (negsuc 17999) (pos 2024) (pos 2024) (pos 1704085199) → ⊥
-worked_before h = absurd (omega (arith, signed, day_2024, h.begun))
+worked_before h = absurd (omega (arith, signed, begins.0, h.begun))
 
 worked_after : IsInRuleYears (negsuc 17999) (pos 2024) (pos 2024) (pos 1735707600) → ⊥
-worked_after h = absurd (omega (arith, signed, day_2025, h.not_over))
+worked_after h = absurd (omega (arith, signed, begins.1, h.not_over))
 
 -- midnight and the second before the next are times of day, and no others beside them
 worked_times : IsTimeOfDay (pos 0) × IsTimeOfDay (pos 86399)

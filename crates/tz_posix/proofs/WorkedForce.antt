@@ -156,25 +156,23 @@ eastern = ruled (named (codes "EST") (neg_ℤ (pos 18000))) (named (codes "EDT")
 abbrev IsGiven : Given → ℤ → Bool → List ℕ → Type 0
 IsGiven given total saving name = (given.total ≡ total) × (given.saving ≡ saving) × (given.name ≡ name)
 
-standard_given : (given : Given) → Gives eastern (pos 1710053999999999999) given → IsGiven given (neg_ℤ (pos 18000)) false (codes "EST")
+-- a nanosecond before a change, and at it
+given_at : ((given : Given) → Gives eastern (pos 1710053999999999999) given → IsGiven given (neg_ℤ (pos 18000)) false (codes "EST"))
+    × ((given : Given) → Gives eastern (pos 1710054000000000000) given → IsGiven given (neg_ℤ (pos 14400)) true (codes "EDT"))
 unfolding
     seconds_of
     posix_total is_saving instant_in rule_day nth_weekday last_with weekday_of
     is_leap days_in_year days_in_month days_after_zero year_start days_through days_into_year day
-standard_given given gives =
-    let year = in_year (pos 2024) years_2024 3 10 refl (neg_ℤ (pos 18000)) (pos 1710053999) refl in
-    let saves : given.saving ≡ false = gives.saves ∙ rw year refl in
-    (gives.total ∙ rw year refl, saves, gives.named ∙ rw saves refl)
-
-saving_given : (given : Given) → Gives eastern (pos 1710054000000000000) given → IsGiven given (neg_ℤ (pos 14400)) true (codes "EDT")
-unfolding
-    seconds_of
-    posix_total is_saving instant_in rule_day nth_weekday last_with weekday_of
-    is_leap days_in_year days_in_month days_after_zero year_start days_through days_into_year day
-saving_given given gives =
-    let year = in_year (pos 2024) years_2024 3 10 refl (neg_ℤ (pos 18000)) (pos 1710054000) refl in
-    let saves : given.saving ≡ true = gives.saves ∙ rw year refl in
-    (gives.total ∙ rw year refl, saves, gives.named ∙ rw saves refl)
+given_at = (
+  λ given gives.
+      let year = in_year (pos 2024) years_2024 3 10 refl (neg_ℤ (pos 18000)) (pos 1710053999) refl in
+      let saves : given.saving ≡ false = gives.saves ∙ rw year refl in
+      (gives.total ∙ rw year refl, saves, gives.named ∙ rw saves refl),
+  λ given gives.
+      let year = in_year (pos 2024) years_2024 3 10 refl (neg_ℤ (pos 18000)) (pos 1710054000) refl in
+      let saves : given.saving ≡ true = gives.saves ∙ rw year refl in
+      (gives.total ∙ rw year refl, saves, gives.named ∙ rw saves refl),
+)
 
 -- a zone with a rule is refused by the start's day before the end's
 abbrev first_of : List (Option Error) → Option Error

@@ -1,5 +1,5 @@
 use Rattle.std.proofs.{Common.{arith, ◌≡◌, ℤ, pos, neg_ℤ, ◌+ℤ◌, ◌-ℤ◌, ◌*ℤ◌, ◌≤ℤ◌, w32, w64, to_z, of_z, to_z-of_z, FitsSigned}, lemmas.Int.{ints}}
-use Rattle.civil_base.specs.RangeLaws.{offset_least, offset_greatest}
+use Rattle.civil_base.specs.{Ranges.{IsOffset}, RangeLaws.{offset_least, offset_greatest}}
 use Rattle.tz_posix.proofs.rule.second_at.Goals as goal
 
 -- the sum as the code computes it, step by step
@@ -26,26 +26,29 @@ cast_all : (day seconds offset : ℤ) → FitsSigned w32 day → FitsSigned w32 
     → cast (pos 86400 *ℤ day +ℤ seconds -ℤ offset) ≡ pos 86400 *ℤ day +ℤ seconds -ℤ offset
 cast_all day seconds offset fits few least greatest = omega (arith, ints)
 
+-- both sides of the difference, and how large an offset is
+sides : (day seconds offset a b whole e : ℤ) → FitsSigned w32 day → FitsSigned w32 seconds → IsOffset whole → whole ≡ offset
+    → a ≡ to_z w32 (of_z w32 day) → b ≡ to_z w32 (of_z w32 seconds) → e ≡ to_z w32 (of_z w32 whole)
+    → (cast (cast (cast a *ℤ pos 86400) +ℤ cast b) ≡ pos 86400 *ℤ day +ℤ seconds) × (cast e ≡ offset)
+    × (neg_ℤ (pos 93599) ≤ℤ offset) × (offset ≤ℤ pos 93599)
+sides day seconds offset a b whole e fits few bound value is_day is_seconds is_whole =
+    let least = rw value at (offset_least whole bound) in
+    let greatest = rw value at (offset_greatest whole bound) in
+    let ahead : to_z w32 (of_z w32 whole) ≡ offset = omega (arith, ints, value, least, greatest) in (
+      local_is day seconds a b fits few (rw (to_z-of_z fits) at is_day) (rw (to_z-of_z few) at is_seconds),
+      offset_is offset e least greatest (rw ahead at is_whole),
+      least,
+      greatest,
+    )
+
 pub overflow_sub-result : goal.overflow_sub-result
 overflow_sub-result c =
-    let bound = c.whole_seconds.ensures.bound in
-    let value = c.whole_seconds.ensures.value in
-    let least = rw value at (offset_least c.whole_seconds.result bound) in
-    let greatest = rw value at (offset_greatest c.whole_seconds.result bound) in
-    let ahead : to_z w32 (of_z w32 c.whole_seconds.result) ≡ c.args.offset = omega (arith, ints, value, least, greatest) in
-    let local = local_is c.args.day c.args.seconds c.from.result c.from-2.result c.ranges.day c.ranges.seconds
-    (rw (to_z-of_z c.ranges.day) at c.from.ensures) (rw (to_z-of_z c.ranges.seconds) at c.from-2.ensures) in
-    let offset = offset_is c.args.offset c.from-3.result least greatest (rw ahead at c.from-3.ensures) in
-    rw (local, offset) (fits_all c.args.day c.args.seconds c.args.offset c.ranges.day c.ranges.seconds least greatest)
+    let parts = sides c.args.day c.args.seconds c.args.offset c.from.result c.from-2.result c.whole_seconds.result c.from-3.result c.ranges.day c.ranges.seconds
+    c.whole_seconds.ensures.bound c.whole_seconds.ensures.value c.from.ensures c.from-2.ensures c.from-3.ensures in
+    rw (parts.0, parts.1) (fits_all c.args.day c.args.seconds c.args.offset c.ranges.day c.ranges.seconds parts.2 parts.3)
 
 pub returns : goal.returns
 returns c =
-    let bound = c.whole_seconds.ensures.bound in
-    let value = c.whole_seconds.ensures.value in
-    let least = rw value at (offset_least c.whole_seconds.result bound) in
-    let greatest = rw value at (offset_greatest c.whole_seconds.result bound) in
-    let ahead : to_z w32 (of_z w32 c.whole_seconds.result) ≡ c.args.offset = omega (arith, ints, value, least, greatest) in
-    let local = local_is c.args.day c.args.seconds c.from.result c.from-2.result c.ranges.day c.ranges.seconds
-    (rw (to_z-of_z c.ranges.day) at c.from.ensures) (rw (to_z-of_z c.ranges.seconds) at c.from-2.ensures) in
-    let offset = offset_is c.args.offset c.from-3.result least greatest (rw ahead at c.from-3.ensures) in
-    rw (local, offset) (cast_all c.args.day c.args.seconds c.args.offset c.ranges.day c.ranges.seconds least greatest)
+    let parts = sides c.args.day c.args.seconds c.args.offset c.from.result c.from-2.result c.whole_seconds.result c.from-3.result c.ranges.day c.ranges.seconds
+    c.whole_seconds.ensures.bound c.whole_seconds.ensures.value c.from.ensures c.from-2.ensures c.from-3.ensures in
+    rw (parts.0, parts.1) (cast_all c.args.day c.args.seconds c.args.offset c.ranges.day c.ranges.seconds parts.2 parts.3)
