@@ -1,5 +1,5 @@
 -- What a name finds for ever, step by step.
-use Rattle.std.{proofs.Common.{◌≡◌, ℕ, ◌*ℤ◌, ◌<ℤ◌, List, Option, Some, None, option_map, Result, Ok, Err, true, false, ℤ, pos, IsTrue, refl, sym, ap, ◌∙◌, arith}, specs.FinMap.{get}, specs.List.{list_all}}
+use Rattle.std.{proofs.Common.{◌≡◌, ℕ, ◌*ℤ◌, ◌<ℤ◌, List, Option, Some, None, option_map, Result, Ok, Err, Bool, true, false, ℤ, pos, IsTrue, refl, sym, ap, subst, ◌∙◌, arith}, specs.FinMap.{get}, specs.List.{list_all}}
 use Rattle.basics.specs.SignedLaws.{signed}
 use Rattle.zone_table.specs.{Resolved.{resolved_in}, declared.table.Table.{Table}, declared.zone.ZoneInfo.{ZoneInfo}}
 use Rattle.zone_spans.specs.{Bounds.{is_bounded_line}, Compiled.{compiled, compiled_over}, GoesOn.{GoesOn, TellsGoing, goes_on}, Lines.{Rulesets, zone_lines}, Schedules.{is_in_offset_range, total_at, totals_of}, declared.fault.SpanFault.{SpanFault}}
@@ -31,6 +31,10 @@ zone_today table name set is range =
 found_in : {X : Type 0} (f : List ZoneInfo → X) (found : Option (List ZoneInfo)) (infos : List ZoneInfo) (x : X) → found ≡ Some infos
     → option_map f found ≡ Some x → f infos ≡ x
 found_in f found infos x is h = same_some (f infos) x (ap (option_map f) (sym is) ∙ h)
+
+pub told_as : (table : Table) (name : List ℕ) (found told : Option Bool) → found ≡ told → TellsGoing (Ok found) (get table.rulesets) (resolved_in table name)
+    → TellsGoing (Ok told) (get table.rulesets) (resolved_in table name)
+told_as table name found told is tells = subst (λ (o : Option Bool). TellsGoing (Ok o) (get table.rulesets) (resolved_in table name)) is tells
 
 pub going_of : (table : Table) (name : List ℕ) (zone : IsZoneToday table name)
     → TellsGoing (Ok (Some true)) (get table.rulesets) (resolved_in table name)

@@ -4,8 +4,8 @@ use Rattle.std.proofs.{Math.Nat.{div-add-mod', mul-le-mul_right}, lemmas.Bool.{c
 use Rattle.basics.specs.{ComparisonLaws.{lt_pass, lt_from_fail, lt_fail}, SignedLaws.{signed}}
 use Rattle.zone_spans.specs.{Cycle.{entry_on}, Entries.{Entry}}
 use Rattle.tz_zone.specs.{Sets.{IsAccepted, IsSpanTime, schedule_of, shift_of, shifts_of, span_in}, Spans.{Shift, shift_at}, declared.set.FixedTimespanSet.{FixedTimespanSet}}
-use Rattle.tz_ever.specs.{Places.{IsPlace, entry_later}, Unrolled.{again, entries_before, entries_from, next_seam_second, seam_second, unrolled, unrolled_entries}}
-use Rattle.tz_ever.proofs.{UnrolledLemmas.{Climb, above_all, before_step}, UnrolledShows.{cycle_cut, kept_cut, least, past_greatest}}
+use Rattle.tz_ever.specs.{EverShown.{ever_seen}, declared.ever_table.EverTable.{EverTable}, Places.{IsPlace, entry_later}, Unrolled.{again, entries_before, entries_from, next_seam_second, seam_second, unrolled, unrolled_entries}}
+use Rattle.tz_ever.proofs.{UnrolledLemmas.{Climb, above_all, before_step}, UnrolledShows.{cycle, cycle_cut, kept, kept_cut, least, old, past_greatest, set_climbs}}
 
 pub shift_read : (es : List Entry) (k : ℕ) (d : Entry) → k < length es → shift_at (map shift_of es) k ≡ shift_of (get_or es k d)
 shift_read es k d l = get_or-map shift_of es k d (pos 0, pos 0) l
@@ -91,33 +91,24 @@ again_at (suc n) (suc q) r count es d size few within =
 
 -- ---- the parts of a set's entries
 module _ (es : List Entry) (h : Climb least es past_greatest) where
-  abbrev kept : List Entry
-  kept = entries_before next_seam_second es
-
-  abbrev old : List Entry
-  old = entries_before seam_second kept
-
-  abbrev cycle : List Entry
-  cycle = entries_from seam_second kept
-
-  pub start_is : entries_before seam_second es ≡ old
+  pub start_is : entries_before seam_second es ≡ (old es)
   start_is = sym (before_later seam_second next_seam_second es (omega (arith, signed)))
 
-  pub kept_length : length kept ≡ length old + length cycle
-  kept_length = ap length (cycle_cut es h).joined ∙ length-append old cycle
+  pub kept_length : length (kept es) ≡ length (old es) + length (cycle es)
+  kept_length = ap length (cycle_cut es h).joined ∙ length-append (old es) (cycle es)
 
-  pub unrolled_length : length (unrolled_entries es) ≡ length kept + 20 * length cycle
+  pub unrolled_length : length (unrolled_entries es) ≡ length (kept es) + 20 * length (cycle es)
   unfolding unrolled_entries
-  unrolled_length = length-append kept (again 20 cycle) ∙ ap (λ n. length kept + n) (length-again 20 cycle)
+  unrolled_length = length-append (kept es) (again 20 (cycle es)) ∙ ap (λ n. length (kept es) + n) (length-again 20 (cycle es))
 
-  kept_at : (i : ℕ) (d : Entry) → i < length kept → get_or es i d ≡ get_or kept i d
+  kept_at : (i : ℕ) (d : Entry) → i < length (kept es) → get_or es i d ≡ get_or (kept es) i d
   kept_at i d l =
-      ap (λ l. get_or l i d) (kept_cut es h).joined ∙ get_or-append kept (entries_from next_seam_second es) d i l
+      ap (λ l. get_or l i d) (kept_cut es h).joined ∙ get_or-append (kept es) (entries_from next_seam_second es) d i l
 
-  cycle_at : (r : ℕ) (d : Entry) → r < length cycle → get_or es (length old + r) d ≡ get_or cycle r d
+  cycle_at : (r : ℕ) (d : Entry) → r < length (cycle es) → get_or es (length (old es) + r) d ≡ get_or (cycle es) r d
   cycle_at r d l =
-      kept_at (length old + r) d (omega (arith, kept_length))
-      ∙ ap (λ l. get_or l (length old + r) d) (cycle_cut es h).joined ∙ get_or-append-add old cycle r d
+      kept_at (length (old es) + r) d (omega (arith, kept_length))
+      ∙ ap (λ l. get_or l (length (old es) + r) d) (cycle_cut es h).joined ∙ get_or-append-add (old es) (cycle es) r d
 
   as_it_is : (e : Entry) → e ≡ entry_later 0 e
   as_it_is e = λ i. (none e.0 i, e.1)
@@ -125,40 +116,40 @@ module _ (es : List Entry) (h : Climb least es past_greatest) where
       none : (x : ℤ) → x ≡ x +ℤ pos (0 * 12622780800)
       none x = omega (arith, signed)
 
-  pub place_kept : (i : ℕ) → i < length kept → IsPlace es i i 0
+  pub place_kept : (i : ℕ) → i < length (kept es) → IsPlace es i i 0
   unfolding unrolled_entries
   place_kept i l = record {
     within = omega (arith, l, before_length next_seam_second es);
     few = omega arith;
-    is = λ d. get_or-append kept (again 20 cycle) d i l ∙ sym (kept_at i d l) ∙ as_it_is (get_or es i d);
+    is = λ d. get_or-append (kept es) (again 20 (cycle es)) d i l ∙ sym (kept_at i d l) ∙ as_it_is (get_or es i d);
   }
 
-  place_at : (i q r : ℕ) → i ≡ length kept + (q * length cycle + r) → q < 20 → r < length cycle → IsPlace es i (length old + r) (q + 1)
+  place_at : (i q r : ℕ) → i ≡ length (kept es) + (q * length (cycle es) + r) → q < 20 → r < length (cycle es) → IsPlace es i (length (old es) + r) (q + 1)
   unfolding unrolled_entries
   place_at i q r place few l =
-      let within : length old + r < length es = omega (arith, kept_length, before_length next_seam_second es) in
+      let within : length (old es) + r < length es = omega (arith, kept_length, before_length next_seam_second es) in
       let next : suc q ≡ q + 1 = omega arith in
       record {
         within = within;
         few = omega arith;
         is = λ d.
-            ap (λ j. get_or (unrolled_entries es) j d) place ∙ get_or-append-add kept (again 20 cycle) (q * length cycle + r) d
-            ∙ again_at 20 q r (length cycle) cycle d refl few l
-            ∙ ap (entry_later (suc q)) (sym (cycle_at r d l)) ∙ ap (λ k. entry_later k (get_or es (length old + r) d)) next;
+            ap (λ j. get_or (unrolled_entries es) j d) place ∙ get_or-append-add (kept es) (again 20 (cycle es)) (q * length (cycle es) + r) d
+            ∙ again_at 20 q r (length (cycle es)) (cycle es) d refl few l
+            ∙ ap (entry_later (suc q)) (sym (cycle_at r d l)) ∙ ap (λ k. entry_later k (get_or es (length (old es) + r) d)) next;
       }
 
-  pub place_later : (i start end : ℕ) → start ≡ length (entries_before seam_second es) → end ≡ length kept → end ≤ i
+  pub place_later : (i start end : ℕ) → start ≡ length (entries_before seam_second es) → end ≡ length (kept es) → end ≤ i
       → i < length (unrolled_entries es) → IsPlace es i (start + (i - end) % (end - start)) ((i - end) / (end - start) + 1)
   place_later i start end s e past l =
-      let begun : start ≡ length old = s ∙ ap length start_is in
-      let count : end - start ≡ length cycle = omega (arith, begun, e, kept_length) in
+      let begun : start ≡ length (old es) = s ∙ ap length start_is in
+      let count : end - start ≡ length (cycle es) = omega (arith, begun, e, kept_length) in
       let all = unrolled_length in
-      let some : 0 < length cycle = omega (arith, all, l, past, e) in
-      let q = (i - end) / length cycle in
-      let r = (i - end) % length cycle in
-      let parts : q * length cycle + r ≡ i - end = div-add-mod' (i - end) (length cycle) in
-      let rest : r < length cycle = omega (arith, some) in
-      let few : q < 20 = below q (length cycle) (omega (arith, all, parts, l, past, e)) in
+      let some : 0 < length (cycle es) = omega (arith, all, l, past, e) in
+      let q = (i - end) / length (cycle es) in
+      let r = (i - end) % length (cycle es) in
+      let parts : q * length (cycle es) + r ≡ i - end = div-add-mod' (i - end) (length (cycle es)) in
+      let rest : r < length (cycle es) = omega (arith, some) in
+      let few : q < 20 = below q (length (cycle es)) (omega (arith, all, parts, l, past, e)) in
       subst (λ n. IsPlace es i (start + (i - end) % n) ((i - end) / n + 1)) (sym count)
       (subst (λ n. IsPlace es i (n + r) (q + 1)) (sym begun) (place_at i q r (omega (arith, parts, past, e)) few rest))
     where
@@ -168,14 +159,26 @@ module _ (es : List Entry) (h : Climb least es past_greatest) where
         | inr more ↦ let least = mul-le-mul_right {m = 20} {n = q} c more in absurd (omega (arith, least, h))
       ]
 
-  pub some_in_cycle : (i start end : ℕ) → start ≡ length (entries_before seam_second es) → end ≡ length kept → end ≤ i
+  pub some_in_cycle : (i start end : ℕ) → start ≡ length (entries_before seam_second es) → end ≡ length (kept es) → end ≤ i
       → i < length (unrolled_entries es) → start < end
   some_in_cycle i start end s e past l =
-      let begun : start ≡ length old = s ∙ ap length start_is in
+      let begun : start ≡ length (old es) = s ∙ ap length start_is in
       omega (arith, unrolled_length, kept_length, begun, e, past, l)
 
-  pub counts_rise : length (entries_before seam_second es) ≤ length kept
+  pub counts_rise : length (entries_before seam_second es) ≤ length (kept es)
   counts_rise = let begun = ap length start_is in omega (arith, kept_length, begun)
+
+-- ---- of a table
+pub some_of_cycle : (table : EverTable) (index : ℕ) → table.end ≤ index → index < length (unrolled_entries (ever_seen table.set.now).others)
+    → table.start < table.end
+some_of_cycle table index past l =
+    let set = ever_seen table.set.now in
+    some_in_cycle set.others (set_climbs set table.set.now.accepted) index table.start table.end table.starts table.ends past l
+
+pub starts_first : (table : EverTable) → table.start ≤ table.end
+starts_first table =
+    let set = ever_seen table.set.now in
+    omega (arith, counts_rise set.others (set_climbs set table.set.now.accepted), table.starts, table.ends)
 
 -- ---- what is read at a place
 pub time_of_place : (set : FixedTimespanSet) (index entry cycles : ℕ) → IsPlace set.others index entry cycles

@@ -132,53 +132,54 @@ accepted set ok =
       bound = climb_bound least (unrolled_entries set.others) _ (le_itself least) (omega (arith, signed)) climbs;
     }
 
+-- the entries before the next seam, of which those before the first and those of a cycle
+abbrev pub kept : List Entry → List Entry
+kept es = entries_before next_seam_second es
+
+abbrev pub old : List Entry → List Entry
+old es = entries_before seam_second (kept es)
+
+abbrev pub cycle : List Entry → List Entry
+cycle es = entries_from seam_second (kept es)
+
 -- ---- what is shown
 module _ (first : FixedTimespan) (es : List Entry) (h : Climb least es past_greatest) where
-  abbrev kept : List Entry
-  kept = entries_before next_seam_second es
-
-  abbrev old : List Entry
-  old = entries_before seam_second kept
-
-  abbrev cycle : List Entry
-  cycle = entries_from seam_second kept
-
   -- what is in force just before the cycle
   abbrev begins : FixedTimespan
-  begins = span_by first old (seam -ℤ pos 1)
+  begins = span_by first (old es) (seam -ℤ pos 1)
 
-  before_next : (u : ℤ) → u <ℤ next_seam → span_by first es u ≡ span_by first kept u
+  before_next : (u : ℤ) → u <ℤ next_seam → span_by first es u ≡ span_by first (kept es) u
   before_next u early =
       ap (λ l. span_by first l u) (kept_cut es h).joined
-      ∙ span_by-more kept (entries_from next_seam_second es) first u
-      ∙ none_come u (span_by first kept u) next_seam_second (entries_from next_seam_second es) past_greatest (kept_cut es h).after early
+      ∙ span_by-more (kept es) (entries_from next_seam_second es) first u
+      ∙ none_come u (span_by first (kept es) u) next_seam_second (entries_from next_seam_second es) past_greatest (kept_cut es h).after early
 
-  by_cycle : (u : ℤ) → (seam -ℤ pos 1) ≤ℤ u → span_by first kept u ≡ span_by begins cycle u
+  by_cycle : (u : ℤ) → (seam -ℤ pos 1) ≤ℤ u → span_by first (kept es) u ≡ span_by begins (cycle es) u
   by_cycle u late =
       ap (λ l. span_by first l u) (cycle_cut es h).joined
-      ∙ span_by-more old cycle first u
-      ∙ ap (λ s. span_by s cycle u)
-      (all_come u (seam -ℤ pos 1) first least old seam_second (cycle_cut es h).before (omega (arith, signed, late)) (omega (arith, signed)))
+      ∙ span_by-more (old es) (cycle es) first u
+      ∙ ap (λ s. span_by s (cycle es) u)
+      (all_come u (seam -ℤ pos 1) first least (old es) seam_second (cycle_cut es h).before (omega (arith, signed, late)) (omega (arith, signed)))
 
   abbrev repeats : Type 0
   repeats = span_by first es (instant_on (seam -ℤ pos 1)) ≡ span_by first es (seam -ℤ pos 1)
 
-  leaves : repeats → Leaves begins next_seam_second cycle
+  leaves : repeats → Leaves begins next_seam_second (cycle es)
   leaves repeat u late =
-      all_come u (next_seam -ℤ pos 1) begins seam_second cycle next_seam_second (cycle_cut es h).after late (omega (arith, signed))
+      all_come u (next_seam -ℤ pos 1) begins seam_second (cycle es) next_seam_second (cycle_cut es h).after late (omega (arith, signed))
       ∙ sym (by_cycle (next_seam -ℤ pos 1) (omega (arith, signed))) ∙ sym (before_next (next_seam -ℤ pos 1) (omega (arith, signed)))
       ∙ repeat
       ∙ before_next (seam -ℤ pos 1) (omega (arith, signed)) ∙ by_cycle (seam -ℤ pos 1) (le_itself _)
-      ∙ none_come (seam -ℤ pos 1) begins seam_second cycle next_seam_second (cycle_cut es h).after (omega (arith, signed))
+      ∙ none_come (seam -ℤ pos 1) begins seam_second (cycle es) next_seam_second (cycle_cut es h).after (omega (arith, signed))
 
-  unrolled_is : (t : ℤ) → span_by first (unrolled_entries es) t ≡ span_by (span_by first kept t) (again 20 cycle) t
+  unrolled_is : (t : ℤ) → span_by first (unrolled_entries es) t ≡ span_by (span_by first (kept es) t) (again 20 (cycle es)) t
   unfolding unrolled_entries
-  unrolled_is t = span_by-more kept (again 20 cycle) first t
+  unrolled_is t = span_by-more (kept es) (again 20 (cycle es)) first t
 
   early_shows : (t : ℤ) → t <ℤ next_seam → span_by first (unrolled_entries es) t ≡ span_by first es t
   early_shows t early =
       unrolled_is t
-      ∙ none_come t (span_by first kept t) next_seam_second (again 20 cycle) _ (climb_again 20 seam_second cycle (cycle_cut es h).after) early
+      ∙ none_come t (span_by first (kept es) t) next_seam_second (again 20 (cycle es)) _ (climb_again 20 seam_second (cycle es) (cycle_cut es h).after) early
       ∙ sym (before_next t early)
 
   late_shows : repeats → (t : ℤ) (k : ℕ) → k < 20 → ArePast t (suc k) → span_by first (unrolled_entries es) t ≡ span_by first es (earlier (suc k) t)
@@ -186,8 +187,8 @@ module _ (first : FixedTimespan) (es : List Entry) (h : Climb least es past_grea
       let from = past.begun (omega arith) in
       let before = past.not_over in
       unrolled_is t
-      ∙ ap (λ s. span_by s (again 20 cycle) t) (by_cycle t (omega (arith, signed)) ∙ leaves repeat t (omega (arith, signed)))
-      ∙ again_shows 20 k begins seam_second cycle t few (cycle_cut es h).after (leaves repeat)
+      ∙ ap (λ s. span_by s (again 20 (cycle es)) t) (by_cycle t (omega (arith, signed)) ∙ leaves repeat t (omega (arith, signed)))
+      ∙ again_shows 20 k begins seam_second (cycle es) t few (cycle_cut es h).after (leaves repeat)
       (record { from = omega (arith, signed); before = omega (arith, signed) })
       ∙ sym (by_cycle (earlier (suc k) t) (omega (arith, signed))) ∙ sym (before_next (earlier (suc k) t) (omega (arith, signed)))
 

@@ -12,4 +12,4 @@ pub span-as_before : (k : ℕ) (lines : List Line) (last : Line) (place : ℕ) (
     → IsApart turn → t <ℤ (turn.tested.low *ℤ pos 1000000000)
     → span_in first (sorted_entries_over (k + place) (lines ++ (last ∷ []))) t ≡ span_in first (sorted_entries_over place (lines ++ (last ∷ []))) t
 span-as_before k lines last place first t turn apart early =
-    span-stable lines last place k first t turn.tested turn.latest turn.second turn.before turn.kept_here apart early
+    span-stable lines last place k first t turn.tested turn.latest turn.second turn.before turn.here_is apart early

@@ -233,7 +233,7 @@ more_years front last k j first t going bounded range enough =
           ap (kept_of []) (sorted_entries_over-more front last 300 k on) ∙ kept_of-more (sorted_entries_over 300 zone) gs [] in
           let two = two_kept gs turn.latest turn.second turn.before in
           let all : kept_of [] (sorted_entries_over (k + 300) zone) ≡ two.one ∷ two.two ∷ two.others =
-          kept ∙ ap (λ ks. kept_of ks gs) turn.kept_here ∙ two.all in
+          kept ∙ ap (λ ks. kept_of ks gs) turn.here_is ∙ two.all in
           let those = subst AllSmall all (subst AllSmall (sym kept) small) in
           span-stable_years front last 300 k j first t on fit bounded.greatest saving
           (record { one = two.one; two = two.two; others = two.others; all = all; least = those.0.0; greatest = those.1.0.1 })

@@ -6,7 +6,7 @@ use Rattle.zone_spans.specs.{declared.span.FixedTimespan.{FixedTimespan}, Cycle.
 use Rattle.zone_spans.specs.LaterLaws.{firings_of_years-split}
 use Rattle.tz_ever.specs.InForce.{has_come}
 use Rattle.tz_ever.proofs.cycle.{FiringLemmas.{before_on}, OrderLemmas.{AllFrom, AllTo, AllUnder, IsInOrder, Rising, StartsUnder, chain, chain_under, from-on, in_order-for_ever, later_second, past-from, precede-from, rise-from, rising-on}}
-use Rattle.tz_ever.proofs.cycle.{SeamLemmas.{IsSeam, seam-stays}, ZoneLemmas.{AddsBehind, AllEnd, EndsSaving, IsCycle, IsEndless, later_entries-repeat, listed-more, span-repeats, span_in, start-more}}
+use Rattle.tz_ever.proofs.cycle.{SeamLemmas.{IsSeam, seam-stays}, ZoneLemmas.{AddsBehind, AllEnd, AreEnds, EndsSaving, IsCycle, IsEndless, later_entries-repeat, listed-more, span-repeats, span_in, start-more}}
 
 -- what is tested at a place: all of it over lists that are worked out
 pub record IsTested (lines : List Line) (last : Line) (place : ℕ) : Type 0 where
@@ -114,24 +114,15 @@ tested-stays lines last place test =
 -- ---- a cycle whose ends have the same two entries, a cycle apart
 pub record IsTurning (lines : List Line) (last : Line) (place : ℕ) : Type 0 where
   pub tested : IsTested lines last place
-  pub latest : Entry
-  pub second : Entry
-  pub before : List Entry
-  pub between : List Entry
-  pub kept_here : kept_of [] (sorted_entries_over place (lines ++ (last ∷ []))) ≡ latest ∷ second ∷ before
-  pub kept_there : kept_of [] (sorted_entries_over (place + 400) (lines ++ (last ∷ []))) ≡ entry_on latest ∷ entry_on second ∷ between
+  pub ends : AreEnds (kept_of [] (sorted_entries_over (place + 400) (lines ++ (last ∷ [])))) (kept_of [] (sorted_entries_over place (lines ++ (last ∷ []))))
+  pub open ends use *
 
 pub cycle_of : (lines : List Line) (last : Line) (place : ℕ) → IsTurning lines last place → IsCycle lines last place
 cycle_of lines last place turn = record {
   here = adds_behind lines last place turn.tested;
   there = adds_behind lines last (place + 400) (tested-stays lines last place turn.tested);
   seam = turn.tested.seam;
-  latest = turn.latest;
-  second = turn.second;
-  before = turn.before;
-  between = turn.between;
-  kept_here = turn.kept_here;
-  kept_there = turn.kept_there;
+  ends = turn.ends;
 }
 
 -- two entries or more are kept where two were

@@ -120,12 +120,7 @@ turned_of front last going not_still h =
           front = to-front is_order.low _ (begun_entries last start 300) behind;
           begun = begun_under last start is_order.low (first_fired last 300).0 is_order.starts;
         };
-        latest = both.latest;
-        second = both.second;
-        before = both.before;
-        between = both.between;
-        kept_here = both.here_is;
-        kept_there = both.there_is;
+        ends = both;
       };
       apart = is_order.apart both.latest both.second both.before
           (subst (λ kept. is_apart kept (cycle_entries last) ≡ true) both.here_is last_two.1);

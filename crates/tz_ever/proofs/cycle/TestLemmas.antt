@@ -4,7 +4,7 @@ use Rattle.std.specs.{List.{list_all}, Option.{option_map_or}}
 use Rattle.basics.specs.{ComparisonLaws.{eq_from_pass}, SignedLaws.{signed}}
 use Rattle.zone_spans.specs.{Collapse.{is_no_later, is_same_span, kept_of, kept_with}, Entries.{is_sooner, Entry, total}, LaterLaws.{ends-by}, Lines.{Line}, Cycle.{entry_on, seconds_on}}
 use Rattle.zone_spans.specs.GoesOn.{are_cycle_later, dont_fall, ends_by_then, front_of, is_apart, is_cycle_later, is_in_order, last_of}
-use Rattle.tz_ever.proofs.cycle.{OrderLemmas.{AllFrom, AllTo, Rising, StartsUnder, from-lower, none_below-from}, SortLemmas.{AllAreBelow}, SpanLemmas.{same_span}, StableLemmas.{NoneHasCome}, ZoneLemmas.{AllEnd}}
+use Rattle.tz_ever.proofs.cycle.{OrderLemmas.{AllFrom, AllTo, Rising, StartsUnder, from-lower, none_below-from}, SortLemmas.{AllAreBelow}, SpanLemmas.{same_span}, StableLemmas.{NoneHasCome}, ZoneLemmas.{AllEnd, AreEnds}}
 
 pub not_true : (b : Bool) → not b ≡ true → b ≡ false
 not_true true h = absurd cc
@@ -95,14 +95,6 @@ cycle_later l k h =
     let time = eq_from_pass l.0 (seconds_on k.0) both.0 in
     let span = same_span l.1 k.1 both.1 in
     (λ i. (time i, span i))
-
-pub record AreEnds (there here : List Entry) : Type 0 where
-  pub latest : Entry
-  pub second : Entry
-  pub before : List Entry
-  pub between : List Entry
-  pub here_is : here ≡ latest ∷ second ∷ before
-  pub there_is : there ≡ entry_on latest ∷ entry_on second ∷ between
 
 pub ends_of : (there here : List Entry) → are_cycle_later there here ≡ true → AreEnds there here
 ends_of [] here h = absurd cc

@@ -139,17 +139,22 @@ later_entries-repeat line place k settled late seam =
     ∙ firings_from-repeats place k line.info.offset (first_fired line place).1 line.rules settled late))
     ∙ entries_on line (later_fired line place k)
 
+-- the last two of these entries are those of the others, a cycle later
+pub record AreEnds (there here : List Entry) : Type 0 where
+  pub latest : Entry
+  pub second : Entry
+  pub before : List Entry
+  pub between : List Entry
+  pub here_is : here ≡ latest ∷ second ∷ before
+  pub there_is : there ≡ entry_on latest ∷ entry_on second ∷ between
+
 -- what stands at both ends of a cycle: the same saving, and the last two entries that are kept
 pub record IsCycle (lines : List Line) (last : Line) (place : ℕ) : Type 0 where
   pub here : AddsBehind lines last place
   pub there : AddsBehind lines last (place + 400)
   pub seam : IsSeam last.info.offset last.rules place
-  pub latest : Entry
-  pub second : Entry
-  pub before : List Entry
-  pub between : List Entry
-  pub kept_here : kept_of [] (sorted_entries_over place (lines ++ (last ∷ []))) ≡ latest ∷ second ∷ before
-  pub kept_there : kept_of [] (sorted_entries_over (place + 400) (lines ++ (last ∷ []))) ≡ entry_on latest ∷ entry_on second ∷ between
+  pub ends : AreEnds (kept_of [] (sorted_entries_over (place + 400) (lines ++ (last ∷ [])))) (kept_of [] (sorted_entries_over place (lines ++ (last ∷ []))))
+  pub open ends use *
 
 -- what a set with these entries has in force
 abbrev pub span_in : FixedTimespan → List Entry → ℤ → FixedTimespan
@@ -180,7 +185,7 @@ changes-repeat lines last place k cycle =
     let a = cycle.latest in
     let b = cycle.second in
     let both = kept-repeats (sorted_entries_over place zone) (sorted_entries_over (place + 400) zone) gs a b cycle.before cycle.between
-    cycle.kept_here cycle.kept_there in (
+    cycle.here_is cycle.there_is in (
       ap (kept_of []) (sorted_entries_over-more lines last place k cycle.here) ∙ both.0,
       ap (kept_of []) (sorted_entries_over-more lines last (place + 400) k cycle.there
           ∙ ap (λ l. sorted_entries_over (place + 400) zone ++ l)

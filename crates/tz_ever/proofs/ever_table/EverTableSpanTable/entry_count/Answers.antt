@@ -1,12 +1,10 @@
 use Rattle.std.proofs.Common.{ap, arith, length}
-use Rattle.tz_ever.{specs.EverShown.{ever_seen}, specs.Unrolled.{next_seam_second}, proofs.TableLemmas.{before_length, counts_rise, kept_length, start_is, unrolled_length}, proofs.UnrolledShows.{set_climbs}}
+use Rattle.tz_ever.{specs.EverShown.{ever_seen}, specs.Unrolled.{next_seam_second}, proofs.TableLemmas.{before_length, kept_length, start_is, starts_first, unrolled_length}, proofs.UnrolledShows.{set_climbs}}
 use Rattle.tz_ever.proofs.ever_table.EverTableSpanTable.entry_count.Goals as goal
 
 pub overflow_sub-result : goal.overflow_sub-result
 overflow_sub-result c =
-    let table = c.args.self.now in
-    let set = ever_seen table.set.now in
-    omega (arith, counts_rise set.others (set_climbs set table.set.now.accepted), table.starts, table.ends)
+    omega (arith, starts_first c.args.self.now)
 
 pub overflow_mul-result : goal.overflow_mul-result
 overflow_mul-result c =
