@@ -102,27 +102,33 @@ steady kinds xs s i up l before t order next =
 not_yet : (a s : ℤ) → int_le a s ≡ false → s <ℤ a
 not_yet a s h = grind (arith, ints)
 
+-- the changes' times rise
+up : (c : goal.After-partition_point) → rises (changes_with (kinds_kept c.args.zone.now) c.changes.result.now) ≡ true
+up c = subst (λ l. rises l ≡ true) (sym c.changes.ensures) c.requires
+
+-- the search parts them at the second
+cut : (c : goal.After-partition_point) → ((j : ℕ) (d : ℤ × ℕ) → j < c.partition_point.result → int_le (get_or c.changes.result.now j d).0 c.args.second ≡ true)
+    × ((j : ℕ) (d : ℤ × ℕ) → c.partition_point.result ≤ j → j < length c.changes.result.now → int_le (get_or c.changes.result.now j d).0 c.args.second ≡ false)
+cut c =
+    let halves = c.partition_point.ensures.partitioned (λ t. int_le t.0 c.args.second) (always_returns_same _ _ _ (λ a r f k. search (rules, of_calls)))
+    (λ i j d l m e. parted (kinds_kept c.args.zone.now) c.changes.result.now c.args.second (up c) i j d l m e) in
+    (λ j d l. halves.0 j d (omega arith) l, λ j d m n. halves.1 j d m n)
+
 pub returns-clause-next : goal.returns-clause-next
 returns-clause-next c =
     let kinds = kinds_kept c.args.zone.now in
     let xs = c.changes.result.now in
-    let up = subst (λ l. rises l ≡ true) (sym c.changes.ensures) c.requires in
-    let cut = c.partition_point.ensures.partitioned (λ t. int_le t.0 c.args.second) (always_returns_same _ _ _ (λ a r f k. search (rules, of_calls)))
-    (λ i j d l m e. parted kinds xs c.args.second up i j d l m e) in
     subst (λ l. c.partition_point.result < length l → c.args.second <ℤ (slice_index_or l c.partition_point.result (pos 0, unnumbered)).0) c.changes.ensures
     (λ m. let n = subst (λ l. c.partition_point.result < l) (length-map xs (change_with kinds)) m in
     subst (λ a. c.args.second <ℤ a) (sym (timed kinds xs c.partition_point.result (pos 0, 0) n))
-    (not_yet _ c.args.second (cut.1 c.partition_point.result (pos 0, 0) (omega arith) n)))
+    (not_yet _ c.args.second ((cut c).1 c.partition_point.result (pos 0, 0) (omega arith) n)))
 
 pub returns-clause-same : goal.returns-clause-same
 returns-clause-same c =
     let kinds = kinds_kept c.args.zone.now in
     let xs = c.changes.result.now in
-    let up = subst (λ l. rises l ≡ true) (sym c.changes.ensures) c.requires in
-    let cut = c.partition_point.ensures.partitioned (λ t. int_le t.0 c.args.second) (always_returns_same _ _ _ (λ a r f k. search (rules, of_calls)))
-    (λ i j d l m e. parted kinds xs c.args.second up i j d l m e) in
     subst (λ l. IsSteady l c.partition_point.result c.args.second) c.changes.ensures
-    (steady kinds xs c.args.second c.partition_point.result up c.partition_point.ensures.bound (λ j d l. cut.0 j d (omega arith) l))
+    (steady kinds xs c.args.second c.partition_point.result (up c) c.partition_point.ensures.bound (cut c).0)
 
 pub returns-clause-within : goal.returns-clause-within
 returns-clause-within c =
@@ -135,20 +141,12 @@ pub returns-clause-over : goal.returns-clause-over
 returns-clause-over c =
     let kinds = kinds_kept c.args.zone.now in
     let xs = c.changes.result.now in
-    let up = subst (λ l. rises l ≡ true) (sym c.changes.ensures) c.requires in
-    let cut = c.partition_point.ensures.partitioned (λ t. int_le t.0 c.args.second) (always_returns_same _ _ _ (λ a r f k. search (rules, of_calls)))
-    (λ i j d l m e. parted kinds xs c.args.second up i j d l m e) in
     subst (λ l. list_all (λ change. int_le change.0 c.args.second) l ≡ nat_eq c.partition_point.result (length l)) c.changes.ensures
-    (rw (length-map xs (change_with kinds)) (all_front (change_with kinds) (λ change. int_le change.0 c.args.second) xs c.partition_point.result c.partition_point.ensures.bound
-    (λ j d l. cut.0 j d (omega arith) l) (λ j d m n. cut.1 j d m n)))
+    (rw (length-map xs (change_with kinds)) (all_front (change_with kinds) (λ change. int_le change.0 c.args.second) xs c.partition_point.result c.partition_point.ensures.bound (cut c).0 (cut c).1))
 
 pub returns-clause-before : goal.returns-clause-before
 returns-clause-before c =
     let kinds = kinds_kept c.args.zone.now in
     let xs = c.changes.result.now in
-    let up = subst (λ l. rises l ≡ true) (sym c.changes.ensures) c.requires in
-    let cut = c.partition_point.ensures.partitioned (λ t. int_le t.0 c.args.second) (always_returns_same _ _ _ (λ a r f k. search (rules, of_calls)))
-    (λ i j d l m e. parted kinds xs c.args.second up i j d l m e) in
     subst (λ l. take c.partition_point.result l ≡ filter (λ change. int_le change.0 c.args.second) l) c.changes.ensures
-    (front (change_with kinds) (λ change. int_le change.0 c.args.second) xs c.partition_point.result c.partition_point.ensures.bound
-    (λ j d l. cut.0 j d (omega arith) l) (λ j d m n. cut.1 j d m n))
+    (front (change_with kinds) (λ change. int_le change.0 c.args.second) xs c.partition_point.result c.partition_point.ensures.bound (cut c).0 (cut c).1)

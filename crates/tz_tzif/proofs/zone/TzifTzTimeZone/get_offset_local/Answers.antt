@@ -1,4 +1,4 @@
-use Rattle.std.proofs.Common.{◌∙◌, ◌∷◌, w64, SFits, rules, take, refl, sym, ap}
+use Rattle.std.proofs.Common.{◌∙◌, ◌∷◌, rules, take, refl, sym, ap}
 use Rattle.civil_base.specs.DateTimes.{local_of}
 use Rattle.tz_tzif.{specs.FooterShown.{held_shown}, specs.Kept.{items_of}, specs.Zones.{value_of, says_of}, proofs.InstantLemmas.{totals_kept, kind_held}, proofs.ReadLemmas.{utc_second_cast}}
 use Rattle.tz_tzif.proofs.zone.TzifTzTimeZone.get_offset_local.Goals as goal
@@ -6,9 +6,8 @@ use Rattle.tz_zone.specs.AnswerLaws.{instants_of_offsets}
 
 pub returns-in-None-clause-totals : goal.returns-in-None-clause-totals
 returns-in-None-clause-totals c =
-    let fs : SFits w64 c.unix_timestamp-second.result = search rules in
     let x = local_of c.args.date_time.now in
-    let second = utc_second_cast c.args.date_time.now x _ fs c.unix_timestamp-second.ensures.value refl c.requires in
+    let second = utc_second_cast c.args.date_time.now x c.unix_timestamp-second.result (search rules) c.unix_timestamp-second.ensures.value refl c.requires in
     let tz = c.args.self.now in
     ap (take 2) (sym c.in-None.ensures ∙ totals_kept (value_of tz) (says_of tz) (items_of tz.offsets) x _ tz.made tz.range second)
 
@@ -18,18 +17,16 @@ returns-in-None-clause-exact c = λ orderly.
 
 pub returns-in-None-next_read-clause-totals : goal.returns-in-None-next_read-clause-totals
 returns-in-None-next_read-clause-totals c =
-    let fs : SFits w64 c.unix_timestamp-second.result = search rules in
     let x = local_of c.args.date_time.now in
-    let second = utc_second_cast c.args.date_time.now x _ fs c.unix_timestamp-second.ensures.value refl c.requires in
+    let second = utc_second_cast c.args.date_time.now x c.unix_timestamp-second.result (search rules) c.unix_timestamp-second.ensures.value refl c.requires in
     let tz = c.args.self.now in
     ap (take 2) (sym (c.in-Some.ensures.next ∙ ap (λ l. (held_shown c.in-Some.first).utoff ∷ l) c.in-None-next_read.ensures)
     ∙ totals_kept (value_of tz) (says_of tz) (items_of tz.offsets) x _ tz.made tz.range second)
 
 pub returns-in-None-next_read-clause-names : goal.returns-in-None-next_read-clause-names
 returns-in-None-next_read-clause-names c =
-    let fs : SFits w64 c.unix_timestamp-second.result = search rules in
     let x = local_of c.args.date_time.now in
-    let second = utc_second_cast c.args.date_time.now x _ fs c.unix_timestamp-second.ensures.value refl c.requires in
+    let second = utc_second_cast c.args.date_time.now x c.unix_timestamp-second.result (search rules) c.unix_timestamp-second.ensures.value refl c.requires in
     kind_held (value_of c.args.self.now) (says_of c.args.self.now) x _ c.in-Some.first second c.in-Some.ensures.held_is
 
 pub returns-in-None-next_read-clause-exact : goal.returns-in-None-next_read-clause-exact
@@ -38,18 +35,16 @@ returns-in-None-next_read-clause-exact c = λ orderly.
 
 pub returns-in-Some-next_read-clause-totals : goal.returns-in-Some-next_read-clause-totals
 returns-in-Some-next_read-clause-totals c =
-    let fs : SFits w64 c.unix_timestamp-second.result = search rules in
     let x = local_of c.args.date_time.now in
-    let second = utc_second_cast c.args.date_time.now x _ fs c.unix_timestamp-second.ensures.value refl c.requires in
+    let second = utc_second_cast c.args.date_time.now x c.unix_timestamp-second.result (search rules) c.unix_timestamp-second.ensures.value refl c.requires in
     let tz = c.args.self.now in
     ap (take 2) (sym (c.in-Some.ensures.next ∙ ap (λ l. (held_shown c.in-Some.first).utoff ∷ l) c.in-Some-next_read.ensures.next)
     ∙ totals_kept (value_of tz) (says_of tz) (items_of tz.offsets) x _ tz.made tz.range second)
 
 pub returns-in-Some-next_read-clause-names : goal.returns-in-Some-next_read-clause-names
 returns-in-Some-next_read-clause-names c =
-    let fs : SFits w64 c.unix_timestamp-second.result = search rules in
     let x = local_of c.args.date_time.now in
-    let second = utc_second_cast c.args.date_time.now x _ fs c.unix_timestamp-second.ensures.value refl c.requires in (
+    let second = utc_second_cast c.args.date_time.now x c.unix_timestamp-second.result (search rules) c.unix_timestamp-second.ensures.value refl c.requires in (
       kind_held (value_of c.args.self.now) (says_of c.args.self.now) x _ c.in-Some.first second c.in-Some.ensures.held_is,
       kind_held (value_of c.args.self.now) (says_of c.args.self.now) x _ c.in-Some-next_read.other second c.in-Some-next_read.ensures.held_is,
     )
