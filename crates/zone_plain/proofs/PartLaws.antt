@@ -67,20 +67,22 @@ out_names naming values out same e =
     ap (names_by naming) (written_is values out e) ∙ names_append naming (map (changed (name_in values)) values) (made values)
     ∙ ap (λ names. names ++ names_by naming (made values)) (changed_names naming (name_in values) same values)
 
+-- a name that no stretch of time and no rule gives stays as it is
+out_same : (naming : Naming) → ((name : List ℕ) (i j : InfoValue) → naming (zone name i) ≡ naming (zone name j))
+    → ((i j : InfoValue) → naming (continuation i) ≡ naming (continuation j)) → ((r : RuleValue) → naming (rule r) ≡ None)
+    → (values out : List LineValue) → written_out values ≡ Ok out → names_by naming out ≡ names_by naming values
+unfolding made
+out_same naming of_zone of_line none values out e =
+    out_names naming values out (changed_same naming of_zone of_line (name_in values)) e
+    ∙ ap (λ names. names_by naming values ++ names) (no_made_names naming none values (pairs_of values))
+    ∙ append-nil (names_by naming values)
+
 -- it has the zones and the links that it had, and its rulesets before those that are made
 pub out_zones : (values out : List LineValue) → written_out values ≡ Ok out → names_by zone_name out ≡ names_by zone_name values
-unfolding made
-out_zones values out e =
-    out_names zone_name values out (changed_same zone_name (λ name i j. refl) (λ i j. refl) (name_in values)) e
-    ∙ ap (λ names. names_by zone_name values ++ names) (no_made_names zone_name (λ r. refl) values (pairs_of values))
-    ∙ append-nil (names_by zone_name values)
+out_zones = out_same zone_name (λ name i j. refl) (λ i j. refl) (λ r. refl)
 
 pub out_links : (values out : List LineValue) → written_out values ≡ Ok out → names_by new_name out ≡ names_by new_name values
-unfolding made
-out_links values out e =
-    out_names new_name values out (changed_same new_name (λ name i j. refl) (λ i j. refl) (name_in values)) e
-    ∙ ap (λ names. names_by new_name values ++ names) (no_made_names new_name (λ r. refl) values (pairs_of values))
-    ∙ append-nil (names_by new_name values)
+out_links = out_same new_name (λ name i j. refl) (λ i j. refl) (λ r. refl)
 
 pub out_rules : (values out : List LineValue) → written_out values ≡ Ok out
     → names_by ruleset_name out ≡ names_by ruleset_name values ++ names_by ruleset_name (made values)

@@ -1,5 +1,5 @@
 -- Worked rows: the lines of a source with `%z` written out.
-use Rattle.std.{proofs.Common.{◌≡◌, ℕ, suc, List, [], ◌∷◌, map, pos, Option, Some, None, Ok, Err, true, cond, not, nat_lt, refl, ap, ◌∙◌}, specs.Prelude.{codes}, specs.Fmt.{digits}}
+use Rattle.std.{proofs.Common.{◌≡◌, ℕ, suc, List, [], ◌∷◌, ◌++◌, map, pos, Option, Some, None, Ok, Err, true, cond, not, nat_lt, refl, ap, ◌∙◌}, specs.Prelude.{codes}, specs.Fmt.{digits}}
 use Rattle.zone_values.specs.{Seconds.{with_type}, Values.{SavingValue, no_saving, one_off, multiple, LineValue, space, zone, continuation, rule, link}, declared.day.DaySpec.TheVariants.{Ordinal}, declared.month.Month.TheVariants.{June}}
 use Rattle.zone_values.specs.declared.{time.TimeSpec.{TimeSpec}, time.TimeSpec.TheVariants.{Hours, HoursMinutes}, time.TimeType.TheVariants.{Wall}, year.Year.TheVariants.{Minimum}}
 use Rattle.zone_plain_lines.specs.declared.cause.PlainCause.TheVariants as cause
@@ -24,40 +24,37 @@ a_rule name saving letters = rule (record {
 abbrev a_line : TimeSpec → SavingValue → List ℕ → LineValue
 a_line offset saving format = continuation (record { utc_offset = offset; saving = saving; format = format; time = None })
 
+-- lines under rulesets, each by its offset, its ruleset and its FORMAT
+abbrev ruled_lines : List (TimeSpec × List ℕ × List ℕ) → List LineValue
+ruled_lines rows = map (λ row. a_line row.0 (multiple row.1) row.2) rows
+
+-- a zone whose first line is under a ruleset, behind these rules
+abbrev zone_of : List ℕ → List ℕ → List LineValue → List LineValue
+zone_of name format lines =
+    a_rule (codes "d") (Hours (pos 1)) (Some (codes "S")) ∷ a_rule (codes "_e") (Hours (pos 0)) None ∷ a_rule (codes "d") (Hours (pos 0)) None
+    ∷ zone (codes "A") (record { utc_offset = Hours (pos 2); saving = multiple name; format = format; time = None }) ∷ lines
+
+-- its lines without a ruleset, and a link
+abbrev last_lines : List ℕ → List ℕ → List LineValue
+last_lines without with =
+    a_line (Hours (pos 5)) no_saving without ∷ a_line (Hours (pos 5)) (one_off (HoursMinutes (pos 0) (pos 30))) with ∷ link (codes "A") (codes "B") ∷ []
+
 -- two offsets under one ruleset, the first of them twice; another ruleset at that offset; amounts, letters and a link
 abbrev source : List LineValue
-source =
-    a_rule (codes "d") (Hours (pos 1)) (Some (codes "S"))
-    ∷ a_rule (codes "_e") (Hours (pos 0)) None
-    ∷ a_rule (codes "d") (Hours (pos 0)) None
-    ∷ zone (codes "A") (record { utc_offset = Hours (pos 2); saving = multiple (codes "d"); format = codes "%z"; time = None })
-    ∷ a_line (HoursMinutes (pos 5) (pos 30)) (multiple (codes "d")) (codes "A%zB")
-    ∷ a_line (Hours (pos 2)) (multiple (codes "d")) (codes "C%z")
-    ∷ a_line (Hours (pos 2)) (multiple (codes "_e")) (codes "%z")
-    ∷ a_line (Hours (pos 2)) (multiple (codes "d")) (codes "C%sT")
-    ∷ a_line (Hours (pos 5)) no_saving (codes "%z")
-    ∷ a_line (Hours (pos 5)) (one_off (HoursMinutes (pos 0) (pos 30))) (codes "%z")
-    ∷ link (codes "A") (codes "B")
-    ∷ []
+source = zone_of (codes "d") (codes "%z") (ruled_lines ((HoursMinutes (pos 5) (pos 30), codes "d", codes "A%zB") ∷ (Hours (pos 2), codes "d", codes "C%z")
+    ∷ (Hours (pos 2), codes "_e", codes "%z") ∷ (Hours (pos 2), codes "d", codes "C%sT") ∷ []) ++ last_lines (codes "%z") (codes "%z"))
 
-written_lines : written_unless source None ≡ Ok (
-    a_rule (codes "d") (Hours (pos 1)) (Some (codes "S"))
-    ∷ a_rule (codes "_e") (Hours (pos 0)) None
-    ∷ a_rule (codes "d") (Hours (pos 0)) None
-    ∷ zone (codes "A") (record { utc_offset = Hours (pos 2); saving = multiple (codes "__a"); format = codes "%s"; time = None })
-    ∷ a_line (HoursMinutes (pos 5) (pos 30)) (multiple (codes "__b")) (codes "A%sB")
-    ∷ a_line (Hours (pos 2)) (multiple (codes "__a")) (codes "C%s")
-    ∷ a_line (Hours (pos 2)) (multiple (codes "__c")) (codes "%s")
-    ∷ a_line (Hours (pos 2)) (multiple (codes "d")) (codes "C%sT")
-    ∷ a_line (Hours (pos 5)) no_saving (codes "+05")
-    ∷ a_line (Hours (pos 5)) (one_off (HoursMinutes (pos 0) (pos 30))) (codes "+0530")
-    ∷ link (codes "A") (codes "B")
-    ∷ a_rule (codes "__a") (Hours (pos 1)) (Some (codes "+03"))
+-- a rule that is made stands behind them
+written_lines : written_unless source None
+    ≡ Ok (zone_of (codes "__a") (codes "%s") (ruled_lines ((HoursMinutes (pos 5) (pos 30), codes "__b", codes "A%sB") ∷ (Hours (pos 2), codes "__a", codes "C%s")
+    ∷ (Hours (pos 2), codes "__c", codes "%s") ∷ (Hours (pos 2), codes "d", codes "C%sT") ∷ []) ++ last_lines (codes "+05") (codes "+0530") ++ (
+    a_rule (codes "__a") (Hours (pos 1)) (Some (codes "+03"))
     ∷ a_rule (codes "__a") (Hours (pos 0)) (Some (codes "+02"))
     ∷ a_rule (codes "__b") (Hours (pos 1)) (Some (codes "+0630"))
     ∷ a_rule (codes "__b") (Hours (pos 0)) (Some (codes "+0530"))
     ∷ a_rule (codes "__c") (Hours (pos 0)) (Some (codes "+02"))
-    ∷ [])
+    ∷ []
+    )))
 unfolding asked_by around_mark pairs_from made rules_named mark_of ending_within made_name digits offset_text
 written_lines = refl
 
