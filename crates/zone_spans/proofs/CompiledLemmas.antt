@@ -32,13 +32,8 @@ none_met false fault others h = (refl, h)
 
 -- a fault that is the definition's is due
 is_due : (fault : SpanFault) (due : Result FixedTimespanSet SpanFault) → due ≡ Err fault → IsDue fault due
-is_due UnknownRuleset due h = h
-is_due MissingUntil due h = h
-is_due YearRange due h = h
-is_due RuleYears due h = h
-is_due DayRange due h = h
-is_due NoStandardSpan due h = h
 is_due NoMemory due h = tt
+is_due _ due h = h
 
 -- a ruleset that is not there is the first fault
 pub unknown_due : (most : ℕ) (rulesets : Rulesets) (infos : List ZoneInfo) (fault : SpanFault) → IsUnknown fault (list_any (is_unknown rulesets) infos)
@@ -48,12 +43,8 @@ unknown_due most rulesets infos UnknownRuleset h =
     let lines = zone_lines rulesets infos in
     let others = first_met (line_tests most infos lines ++ entry_test most lines ∷ []) in
     ap (λ b. unless (cond b (Some UnknownRuleset) others) (set_of_lines_over most lines)) h
-unknown_due most rulesets infos MissingUntil h = absurd h
-unknown_due most rulesets infos YearRange h = absurd h
-unknown_due most rulesets infos RuleYears h = absurd h
-unknown_due most rulesets infos DayRange h = absurd h
-unknown_due most rulesets infos NoStandardSpan h = absurd h
 unknown_due most rulesets infos NoMemory h = tt
+unknown_due most rulesets infos _ h = absurd h
 
 -- a zone of known rulesets has the fault of its lines, or the one of its entries
 known_fault : (most : ℕ) (rulesets : Rulesets) (infos : List ZoneInfo) → list_any (is_unknown rulesets) infos ≡ false

@@ -30,12 +30,7 @@ mark_is : (n m : TimeType) → same_mark n m ≡ true → m ≡ n
 mark_is Wall Wall h = refl
 mark_is Standard Standard h = refl
 mark_is UTC UTC h = refl
-mark_is Wall Standard h = cc
-mark_is Wall UTC h = cc
-mark_is Standard Wall h = cc
-mark_is Standard UTC h = cc
-mark_is UTC Wall h = cc
-mark_is UTC Standard h = cc
+mark_is _ _ h = cc
 
 same_shift : (mark : TimeType) (a b offset saving : ℤ) → int_lt a b ≡ int_lt (instant_of mark a offset saving) (instant_of mark b offset saving)
 unfolding instant_of

@@ -29,13 +29,23 @@ all rules name = Some rules
 
 -- ---- whole zones
 
--- `Zone Test/Mark 1:00 1:00 A 2000 Jan 1 0:00s`, ` 0:00 - B`
-standard_end : compiled none (line (pos 3600) (OneOff (pos 3600)) (codes "A")
-    (Some (UntilTime (Number (pos 2000)) January (Ordinal (pos 1)) (record { 0 = Zero; 1 = Standard })))
-    ∷ line (pos 0) NoSaving (codes "B") None ∷ [])
-    ≡ Ok (record { first = span (pos 3600) (pos 3600) (codes "A"); rest = (pos 946681200, span (pos 0) (pos 0) (codes "B")) ∷ [] })
+-- an hour ahead by a saving, up to this end
+abbrev ending : ChangeTime → Result FixedTimespanSet SpanFault
+ending end = compiled none (line (pos 3600) (OneOff (pos 3600)) (codes "A") (Some end) ∷ line (pos 0) NoSaving (codes "B") None ∷ [])
+
+abbrev ended : ℤ → Result FixedTimespanSet SpanFault
+ended time = Ok (record { first = span (pos 3600) (pos 3600) (codes "A"); rest = (time, span (pos 0) (pos 0) (codes "B")) ∷ [] })
+
+-- three spans
+abbrev three : FixedTimespan → Entry → Entry → Result FixedTimespanSet SpanFault
+three first second third = Ok (record { first = first; rest = second ∷ third ∷ [] })
+
+-- `Zone Test/Mark 1:00 1:00 A 2000 Jan 1 0:00s`, ` 0:00 - B`; and `Zone Test/Wall 1:00 1:00 A 2000`, ` 0:00 - B`: the wall's clock is two hours
+-- ahead at the end, since the line's own saving is in force there
+by_mark : (ending (UntilTime (Number (pos 2000)) January (Ordinal (pos 1)) (record { 0 = Zero; 1 = Standard })) ≡ ended (pos 946681200))
+    × (ending (UntilYear (Number (pos 2000))) ≡ ended (pos 946677600))
 unfolding compiled_over schedule_fault_over leaves_year_over zone_lines set_of_lines_over first_span sorted_entries_over entries_from_over entries_of_over next_start_over line_firings_over years_over abbreviation line_end is_in_year instant_of named_day is_leap days_in_year days_in_month days_after_zero year_start days_through days_into_year day collapsed kept_of kept_with without_first
-standard_end = refl
+by_mark = (refl, refl)
 
 -- `Zone Test/Knot 10:00 - A 2000`, ` 5:00 - B 1999 Dec 31 20:00`, ` 0:00 - C`: both stay, though the second began before the local
 -- end of the first
@@ -43,28 +53,15 @@ knot : compiled none (line (pos 36000) NoSaving (codes "A") (Some (UntilYear (Nu
     ∷ line (pos 18000) NoSaving (codes "B") (Some (UntilTime (Number (pos 1999)) December (Ordinal (pos 31))
     (record { 0 = Hours (pos 20); 1 = Wall })))
     ∷ line (pos 0) NoSaving (codes "C") None ∷ [])
-    ≡ Ok (record {
-      first = span (pos 36000) (pos 0) (codes "A");
-      rest = (pos 946648800, span (pos 18000) (pos 0) (codes "B")) ∷ (pos 946652400, span (pos 0) (pos 0) (codes "C")) ∷ [];
-    })
+    ≡ three (span (pos 36000) (pos 0) (codes "A")) (pos 946648800, span (pos 18000) (pos 0) (codes "B")) (pos 946652400, span (pos 0) (pos 0) (codes "C"))
 unfolding compiled_over schedule_fault_over leaves_year_over zone_lines set_of_lines_over first_span sorted_entries_over entries_from_over entries_of_over next_start_over line_firings_over years_over abbreviation line_end is_in_year instant_of named_day is_leap days_in_year days_in_month days_after_zero year_start days_through days_into_year day collapsed kept_of kept_with without_first
 knot = refl
-
--- `Zone Test/Wall 1:00 1:00 A 2000`, ` 0:00 - B`: the wall's clock is two hours ahead at the end, since the line's own saving is in force there
-wall_end : compiled none (line (pos 3600) (OneOff (pos 3600)) (codes "A") (Some (UntilYear (Number (pos 2000))))
-    ∷ line (pos 0) NoSaving (codes "B") None ∷ [])
-    ≡ Ok (record { first = span (pos 3600) (pos 3600) (codes "A"); rest = (pos 946677600, span (pos 0) (pos 0) (codes "B")) ∷ [] })
-unfolding compiled_over schedule_fault_over leaves_year_over zone_lines set_of_lines_over first_span sorted_entries_over entries_from_over entries_of_over next_start_over line_firings_over years_over abbreviation line_end is_in_year instant_of named_day is_leap days_in_year days_in_month days_after_zero year_start days_through days_into_year day collapsed kept_of kept_with without_first
-wall_end = refl
 
 -- `Zone Test/Second 0:00 - A 2000`, ` 1:00 - B 2000 Jan 1 1:00`, ` 2:00 - C`: the last two begin at one second, and the later line has the last word
 one_second : compiled none (line (pos 0) NoSaving (codes "A") (Some (UntilYear (Number (pos 2000))))
     ∷ line (pos 3600) NoSaving (codes "B") (Some (UntilTime (Number (pos 2000)) January (Ordinal (pos 1)) (record { 0 = Hours (pos 1); 1 = Wall })))
     ∷ line (pos 7200) NoSaving (codes "C") None ∷ [])
-    ≡ Ok (record {
-      first = span (pos 0) (pos 0) (codes "A");
-      rest = (pos 946684800, span (pos 3600) (pos 0) (codes "B")) ∷ (pos 946684800, span (pos 7200) (pos 0) (codes "C")) ∷ [];
-    })
+    ≡ three (span (pos 0) (pos 0) (codes "A")) (pos 946684800, span (pos 3600) (pos 0) (codes "B")) (pos 946684800, span (pos 7200) (pos 0) (codes "C"))
 unfolding compiled_over schedule_fault_over leaves_year_over zone_lines set_of_lines_over first_span sorted_entries_over entries_from_over entries_of_over next_start_over line_firings_over years_over abbreviation line_end is_in_year instant_of named_day is_leap days_in_year days_in_month days_after_zero year_start days_through days_into_year day collapsed kept_of kept_with without_first
 one_second = refl
 
