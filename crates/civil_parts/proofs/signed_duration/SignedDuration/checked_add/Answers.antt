@@ -12,12 +12,8 @@ computed a b = to_z w128 (of_z w128 (to_z w128 (of_z w128 a) +ℤ to_z w128 (of_
 holds : (a b x y : ℤ) → IsDuration a → IsDuration b → a ≡ x → b ≡ y → computed a b ≡ x +ℤ y
 holds a b x y f g d e = omega (arith, signed_casts, f.least, f.greatest, g.least, g.greatest)
 
-sum_of : (c : goal.After-from_whole_nanoseconds) → computed c.self.inside.nanos c.rhs.inside.nanos ≡ c.args.self +ℤ c.args.rhs
-sum_of c =
-    holds c.self.inside.nanos c.rhs.inside.nanos c.args.self c.args.rhs c.self.invariant c.rhs.invariant c.self.view_is c.rhs.view_is
-
 pub returns-clause-has : goal.returns-clause-has
-returns-clause-has c = rw (sum_of c) at c.from_whole_nanoseconds.ensures.has
+returns-clause-has c = rw (holds _ _ _ _ c.self.invariant c.rhs.invariant c.self.view_is c.rhs.view_is) at c.from_whole_nanoseconds.ensures.has
 
 pub returns-clause-value : goal.returns-clause-value
-returns-clause-value c = rw (sum_of c) at c.from_whole_nanoseconds.ensures.value
+returns-clause-value c = rw (holds _ _ _ _ c.self.invariant c.rhs.invariant c.self.view_is c.rhs.view_is) at c.from_whole_nanoseconds.ensures.value
