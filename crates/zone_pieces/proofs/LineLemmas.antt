@@ -111,25 +111,23 @@ long_stripped limit line long =
     let some : limit < length (strip_carriage_return line) = omega (arith, stripped line) in
     grind (arith, nat_tests, some)
 
-pub answer_short : (limit : ℕ) (replies : Replies) (line : List ℕ) → answer limit replies (take (limit + 2) line) ≡ answer limit replies line
-answer_short limit replies line = by_size (nat_lt (limit + 2) (length line)) refl
+-- so what is told of every line that is too long is told of its front
+by_front : {A : Type 0} (told : List ℕ → A) (limit : ℕ) (line : List ℕ) (long : A)
+    → ((l : List ℕ) → nat_lt limit (length (strip_carriage_return l)) ≡ true → told l ≡ long) → told (take (limit + 2) line) ≡ told line
+by_front {A} told limit line long is_long = by_size (nat_lt (limit + 2) (length line)) refl
   where
-    by_size : (b : Bool) → nat_lt (limit + 2) (length line) ≡ b → answer limit replies (take (limit + 2) line) ≡ answer limit replies line
+    by_size : (b : Bool) → nat_lt (limit + 2) (length line) ≡ b → told (take (limit + 2) line) ≡ told line
     by_size true e =
-        let long = ltb-true _ _ e in
+        let more = ltb-true _ _ e in
         let front : length (take (limit + 2) line) ≡ limit + 2 = length-take-le (limit + 2) line (omega arith) in
-        rw (long_stripped limit (take (limit + 2) line) (omega arith), long_stripped limit line (omega arith)) refl
-    by_size false e = ap (answer limit replies) (take_all (limit + 2) line (omega (arith, ltb-false _ _ e)))
+        is_long (take (limit + 2) line) (long_stripped limit (take (limit + 2) line) (omega arith)) ∙ sym (is_long line (long_stripped limit line (omega arith)))
+    by_size false e = ap told (take_all (limit + 2) line (omega (arith, ltb-false _ _ e)))
+
+pub answer_short : (limit : ℕ) (replies : Replies) (line : List ℕ) → answer limit replies (take (limit + 2) line) ≡ answer limit replies line
+answer_short limit replies line = by_front (answer limit replies) limit line replies.to_long (λ l e. rw e refl)
 
 pub fails_short : (limit : ℕ) (replies : Replies) (line : List ℕ) → fails limit replies (take (limit + 2) line) ≡ fails limit replies line
-fails_short limit replies line = by_size (nat_lt (limit + 2) (length line)) refl
-  where
-    by_size : (b : Bool) → nat_lt (limit + 2) (length line) ≡ b → fails limit replies (take (limit + 2) line) ≡ fails limit replies line
-    by_size true e =
-        let long = ltb-true _ _ e in
-        let front : length (take (limit + 2) line) ≡ limit + 2 = length-take-le (limit + 2) line (omega arith) in
-        rw (long_stripped limit (take (limit + 2) line) (omega arith), long_stripped limit line (omega arith)) refl
-    by_size false e = ap (fails limit replies) (take_all (limit + 2) line (omega (arith, ltb-false _ _ e)))
+fails_short limit replies line = by_front (fails limit replies) limit line true (λ l e. rw e refl)
 
 all_short : {A : Type 0} (f : List ℕ → List A) (n : ℕ) → ((line : List ℕ) → f (take n line) ≡ f line) →
     (lines : List (List ℕ)) → flat_map f (map (take n) lines) ≡ flat_map f lines
@@ -141,20 +139,21 @@ any_short : (f : List ℕ → Bool) (n : ℕ) → ((line : List ℕ) → f (take
 any_short f n short [] = refl
 any_short f n short (line ∷ lines) = (λ i. short line i || any_short f n short lines i)
 
--- so answers to lines are the same behind what is held of the open one
+-- so what is told of lines is the same behind what is held of the open one
+told_behind : {A : Type 0} (told : List (List ℕ) → A) (n : ℕ) → ((lines : List (List ℕ)) → told (map (take n) lines) ≡ told lines)
+    → (begun bytes : List ℕ) → told (lines_behind (take n begun) bytes) ≡ told (lines_behind begun bytes)
+told_behind told n short begun bytes =
+    sym (short (lines_behind (take n begun) bytes)) ∙ ap told (lines_short n begun bytes) ∙ short (lines_behind begun bytes)
+
 pub answers_behind : (limit : ℕ) (replies : Replies) (begun bytes : List ℕ) →
     flat_map (answer limit replies) (lines_behind (take (limit + 2) begun) bytes) ≡ flat_map (answer limit replies) (lines_behind begun bytes)
-answers_behind limit replies begun bytes =
-    let short = all_short (answer limit replies) (limit + 2) (answer_short limit replies) in
-    sym (short (lines_behind (take (limit + 2) begun) bytes)) ∙ ap (flat_map (answer limit replies)) (lines_short (limit + 2) begun bytes)
-    ∙ short (lines_behind begun bytes)
+answers_behind limit replies =
+    told_behind (flat_map (answer limit replies)) (limit + 2) (all_short (answer limit replies) (limit + 2) (answer_short limit replies))
 
 pub fails_behind : (limit : ℕ) (replies : Replies) (begun bytes : List ℕ) →
     list_any (fails limit replies) (lines_behind (take (limit + 2) begun) bytes) ≡ list_any (fails limit replies) (lines_behind begun bytes)
-fails_behind limit replies begun bytes =
-    let short = any_short (fails limit replies) (limit + 2) (fails_short limit replies) in
-    sym (short (lines_behind (take (limit + 2) begun) bytes)) ∙ ap (list_any (fails limit replies)) (lines_short (limit + 2) begun bytes)
-    ∙ short (lines_behind begun bytes)
+fails_behind limit replies =
+    told_behind (list_any (fails limit replies)) (limit + 2) (any_short (fails limit replies) (limit + 2) (fails_short limit replies))
 
 -- as much of a piece as there is room for
 pub held_front : (held more : List ℕ) (room : ℕ) → length held ≤ room → held ++ take (min (length more) (room - length held)) more ≡ take room (held ++ more)

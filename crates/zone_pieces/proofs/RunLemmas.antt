@@ -3,7 +3,7 @@ use Rattle.std.proofs.Common.{◌≡◌, refl, sym, ap, ◌∙◌, subst, arith,
 use Rattle.std.proofs.lemmas.List.{length-take-le}
 use Rattle.std.specs.List.{flat_map}
 use Rattle.zone_outside.specs.{Exchanges.{Event, was_read, was_written, ExchangeSeen, Does, Receives, received, sent, Wrote}, Outside.{Consumes, Rose, last_count}, declared.outside.Failed.{Failed}}
-use Rattle.zone_pieces.specs.{Filters.{Made, BeginsEmpty, in_all}, Runs.{InOrder, Did, Took, SoFar, Ends, Steps, Stops, Finishes}, declared.running.StreamEnd.{StreamEnd}, declared.running.StreamEnd.TheVariants.{Done, Fault, Read, Write, NoMemory, TooLong}}
+use Rattle.zone_pieces.specs.{Filters.{Made, BeginsEmpty, in_all}, Runs.{InOrder, Did, Took, SoFar, Ends, HasEnded, IsDue, Steps, Stops, Finishes}, declared.running.StreamEnd.{StreamEnd}, declared.running.StreamEnd.TheVariants.{Done, Fault, Read, Write, NoMemory, TooLong}}
 use Rattle.zone_pieces.specs.declared.running.StreamEnd.TheVariants as status
 
 received_more : (events more : List Event) → received (events ++ more) ≡ received events ++ received more
@@ -152,23 +152,19 @@ pub ends_long : {made : Made} {was_fed : List ℕ → Type 0} {before now : Exch
     Fed made was_fed before now reads fault → last_count ≤ reads → Ends made before now status.TooLong
 ends_long {made} run many = record { fed = run.fed; written = made.so_far run.fed; so_far = run.so_far; due = (refl, omega (arith, run.many)); cause = tt }
 
+-- all that is due is written
+all_written : (made : Made) (before mid now : ExchangeSeen) (fed : List ℕ) (end : StreamEnd) → SoFar made before mid fed (made.so_far fed) →
+    Wrote mid now (made.at_end fed) → IsDue made fed (in_all made fed) end → HasEnded before now end → Ends made before now end
+all_written made before mid now fed end run wrote due cause =
+    record { fed = fed; written = in_all made fed; so_far = after_write run wrote; due = due; cause = cause }
+
 -- the end was read, and the rest is written or not
 finishing : (made : Made) (before mid now : ExchangeSeen) (fed : List ℕ) (end : StreamEnd) → SoFar made before mid fed (made.so_far fed) →
     before.write_faults ≤ mid.write_faults → IfSome before.left (λ left. mid.left ≡ Some []) → Finishes made fed mid now end → Ends made before now end
-finishing made before mid now fed Done run later ended (wrote, none) = record {
-  fed = fed;
-  written = in_all made fed;
-  so_far = after_write run wrote;
-  due = (refl, none);
-  cause = subst (λ o. IfSome before.left (λ left. o ≡ Some [])) (sym wrote.left) ended;
-}
-finishing made before mid now fed Fault run later ended (wrote, some) = record {
-  fed = fed;
-  written = in_all made fed;
-  so_far = after_write run wrote;
-  due = (refl, some);
-  cause = subst (λ o. IfSome before.left (λ left. o ≡ Some [])) (sym wrote.left) ended;
-}
+finishing made before mid now fed Done run later ended (wrote, none) =
+    all_written made before mid now fed Done run wrote (refl, none) (subst (λ o. IfSome before.left (λ left. o ≡ Some [])) (sym wrote.left) ended)
+finishing made before mid now fed Fault run later ended (wrote, some) =
+    all_written made before mid now fed Fault run wrote (refl, some) (subst (λ o. IfSome before.left (λ left. o ≡ Some [])) (sym wrote.left) ended)
 finishing made before mid now fed Write run later ended (part, rose) = record {
   fed = fed;
   written = made.so_far fed ++ part.part;
