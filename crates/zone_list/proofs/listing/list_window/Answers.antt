@@ -18,24 +18,22 @@ returns-in-Err-clause-range g c = λ is.
 pub loop-place-preserved : goal.loop-place-preserved
 loop-place-preserved g c =
     let set = g.S.SpanTable.seen c.args.set.now in
-    let from = c.args.asked.now.from in
-    let to = c.args.asked.now.to in
+    let asked = c.args.asked.now in
     let place = c.loop-place.place in
-    let so_far = c.loop-place.invariant in
     let times = c.of-widths.result.times in
     let names = c.of-widths.result.names in
     elim c.if-is_within.branch [
       | then-is_within+in-Ok w ↦ record {
-        listed = one_listed times names from to set place _ _ _ (omega (arith, c.loop-place-test.true, c.entry_count-place-end.ensures.count))
-            (sym c.is_within.ensures ∙ w.if-is_within.true) (w.listing-is ∙ w.in-Ok.ensures.row) so_far.listed;
-        dates = one_dated from to set place _ (omega (arith, c.loop-place-test.true, c.entry_count-place-end.ensures.count))
-            (sym c.is_within.ensures ∙ w.if-is_within.true) w.in-Ok.ensures.ok so_far.dates;
+        listed = one_listed times names asked.from asked.to set place _ _ _ (omega (arith, c.loop-place-test.true, c.entry_count-place-end.ensures.count))
+            (sym c.is_within.ensures ∙ w.if-is_within.true) (w.listing-is ∙ w.in-Ok.ensures.row) c.loop-place.invariant.listed;
+        dates = one_dated asked.from asked.to set place _ (omega (arith, c.loop-place-test.true, c.entry_count-place-end.ensures.count))
+            (sym c.is_within.ensures ∙ w.if-is_within.true) w.in-Ok.ensures.ok c.loop-place.invariant.dates;
       }
       | else-is_within w ↦ record {
-        listed = ap (λ rows. rows ++ map (row times names) (left from to set (place + 1))) w.listing-is
-            ∙ none_listed times names from to set place _ _ (omega (arith, c.loop-place-test.true, c.entry_count-place-end.ensures.count))
-            (sym c.is_within.ensures ∙ w.if-is_within.false) so_far.listed;
-        dates = none_dated from to set place _ (omega (arith, c.loop-place-test.true, c.entry_count-place-end.ensures.count))
-            (sym c.is_within.ensures ∙ w.if-is_within.false) so_far.dates;
+        listed = ap (λ rows. rows ++ map (row times names) (left asked.from asked.to set (place + 1))) w.listing-is
+            ∙ none_listed times names asked.from asked.to set place _ _ (omega (arith, c.loop-place-test.true, c.entry_count-place-end.ensures.count))
+            (sym c.is_within.ensures ∙ w.if-is_within.false) c.loop-place.invariant.listed;
+        dates = none_dated asked.from asked.to set place _ (omega (arith, c.loop-place-test.true, c.entry_count-place-end.ensures.count))
+            (sym c.is_within.ensures ∙ w.if-is_within.false) c.loop-place.invariant.dates;
       }
     ]

@@ -9,18 +9,16 @@ loop-place-init g c = record { of_times = most_of_none _; of_names = most_of_non
 pub loop-place-preserved : goal.loop-place-preserved
 loop-place-preserved g c =
     let set = g.S.SpanTable.seen c.args.set.now in
-    let from = c.args.asked.now.from in
-    let to = c.args.asked.now.to in
+    let asked = c.args.asked.now in
     let place = c.loop-place.place in
-    let so_far = c.loop-place.invariant in
     let inside : place < length set.others = omega (arith, c.loop-place-test.true, c.entry_count-place-end.ensures.count) in
     elim c.if-is_within.branch [
       | then-is_within w ↦ record {
-        of_times = widened time_of from to set place _ _ _ inside (sym c.is_within.ensures ∙ w.if-is_within.true) (ap (λ s. s.times) w.widths-is ∙ w.with-widths.ensures.times) so_far.of_times;
-        of_names = widened name_of from to set place _ _ _ inside (sym c.is_within.ensures ∙ w.if-is_within.true) (ap (λ s. s.names) w.widths-is ∙ w.with-widths.ensures.names) so_far.of_names;
+        of_times = widened time_of asked.from asked.to set place _ _ _ inside (sym c.is_within.ensures ∙ w.if-is_within.true) (ap (λ s. s.times) w.widths-is ∙ w.with-widths.ensures.times) c.loop-place.invariant.of_times;
+        of_names = widened name_of asked.from asked.to set place _ _ _ inside (sym c.is_within.ensures ∙ w.if-is_within.true) (ap (λ s. s.names) w.widths-is ∙ w.with-widths.ensures.names) c.loop-place.invariant.of_names;
       }
       | else-is_within w ↦ record {
-        of_times = ap (λ s. max s.times (widest (map time_of (left from to set (place + 1))))) w.widths-is ∙ as_wide time_of from to set place _ _ inside (sym c.is_within.ensures ∙ w.if-is_within.false) so_far.of_times;
-        of_names = ap (λ s. max s.names (widest (map name_of (left from to set (place + 1))))) w.widths-is ∙ as_wide name_of from to set place _ _ inside (sym c.is_within.ensures ∙ w.if-is_within.false) so_far.of_names;
+        of_times = ap (λ s. max s.times (widest (map time_of (left asked.from asked.to set (place + 1))))) w.widths-is ∙ as_wide time_of asked.from asked.to set place _ _ inside (sym c.is_within.ensures ∙ w.if-is_within.false) c.loop-place.invariant.of_times;
+        of_names = ap (λ s. max s.names (widest (map name_of (left asked.from asked.to set (place + 1))))) w.widths-is ∙ as_wide name_of asked.from asked.to set place _ _ inside (sym c.is_within.ensures ∙ w.if-is_within.false) c.loop-place.invariant.of_names;
       }
     ]
