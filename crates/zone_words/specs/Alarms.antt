@@ -1,7 +1,7 @@
 -- The words of an alarm.
 use Rattle.std.specs.{Prelude.{ℕ, ◌==◌, Bool, true, ◌&&◌, ◌||◌, List, [], ◌∷◌, Option, Some, None, is_none, Ok, ℤ, int_lt, bytes_eq, codes, if◌then◌else◌}, List.{list_all, list_any, slice_split}, Option.{option_map_or}}
-use Rattle.zone_words.specs.{Faults.{Reading, wrong, ◌>>=◌}, Options.{GivenOption, value_of}, Tasks.{AlarmAsked}, Values.{date_in, number_in, time_in}}
-use Rattle.zone_words.specs.declared.{fault.WordCause.TheVariants.{BeforeFirst, EndMissing, FirstMissing, FoldRule as BadFoldRule, GapRule as BadGapRule, Weekdays}, task.FoldRule.{FoldRule}, task.FoldRule.TheVariants.{First, Second, Both}}
+use Rattle.zone_words.specs.{Commands.{standing_for}, Faults.{Reading, wrong, ◌>>=◌}, Options.{GivenOption, value_of}, Tasks.{AlarmAsked}, Values.{date_in, number_in, time_in}}
+use Rattle.zone_words.specs.declared.{fault.WordCause.{WordCause}, fault.WordCause.TheVariants.{BeforeFirst, EndMissing, FirstMissing, FoldRule as BadFoldRule, GapRule as BadGapRule, Weekdays}, task.FoldRule.{FoldRule}, task.FoldRule.TheVariants.{First, Second, Both}}
 use Rattle.zone_words.specs.declared.task.GapRule.{GapRule, TheVariants.{Skip, Before, After}}
 
 abbrev pub is_comma : ℕ → Bool
@@ -55,27 +55,22 @@ until_in first given = if_told (last_in first) (value_of given (codes "--until")
 abbrev pub every_in : List GivenOption → Reading ℕ
 every_in given = option_map_or number_in (value_of given (codes "--every")) (Ok 1)
 
-abbrev pub gap_rule : List ℕ → Option GapRule
-gap_rule word =
-    if bytes_eq word (codes "skip") then Some Skip
-    else (if bytes_eq word (codes "before") then Some Before else (if bytes_eq word (codes "after") then Some After else None))
+-- what the value of an option stands for, or what holds where it isn't told
+abbrev pub chosen : {A : Type 0} → (List ℕ → Option A) → WordCause → A → Option (List ℕ) → Reading A
+chosen rule cause default None = Ok default
+chosen rule cause default (Some word) = option_map_or (λ value. Ok value) (rule word) (wrong word cause)
 
-abbrev pub gap_of : List ℕ → Reading GapRule
-gap_of word = option_map_or (λ rule. Ok rule) (gap_rule word) (wrong word BadGapRule)
+abbrev pub gap_rule : List ℕ → Option GapRule
+gap_rule = standing_for ((codes "skip", Skip) ∷ (codes "before", Before) ∷ (codes "after", After) ∷ [])
 
 abbrev pub gap_in : List GivenOption → Reading GapRule
-gap_in given = option_map_or gap_of (value_of given (codes "--gap")) (Ok Skip)
+gap_in given = chosen gap_rule BadGapRule Skip (value_of given (codes "--gap"))
 
 abbrev pub fold_rule : List ℕ → Option FoldRule
-fold_rule word =
-    if bytes_eq word (codes "first") then Some First
-    else (if bytes_eq word (codes "second") then Some Second else (if bytes_eq word (codes "both") then Some Both else None))
-
-abbrev pub fold_of : List ℕ → Reading FoldRule
-fold_of word = option_map_or (λ rule. Ok rule) (fold_rule word) (wrong word BadFoldRule)
+fold_rule = standing_for ((codes "first", First) ∷ (codes "second", Second) ∷ (codes "both", Both) ∷ [])
 
 abbrev pub fold_in : List GivenOption → Reading FoldRule
-fold_in given = option_map_or fold_of (value_of given (codes "--fold")) (Ok First)
+fold_in given = chosen fold_rule BadFoldRule First (value_of given (codes "--fold"))
 
 -- it ends by a count or by its last day
 abbrev pub ends : List ℕ → Option ℕ → Option ℤ → Reading (Unit {0})
