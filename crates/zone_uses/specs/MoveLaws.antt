@@ -67,31 +67,29 @@ are_two change a b x h k = record {
   );
 }
 
+-- the instant alone is read so
+alone : (total : ℤ → ℤ) (x s : ℤ) → ((t : ℤ) → s ≡ t → Reads total x t) → ((t : ℤ) → Reads total x t → s ≡ t) → AreInstants total x (s ∷ [])
+alone total x s reads only = record {
+  rising = one_rises s;
+  exact = λ t. (
+    λ c. cases_more s [] t c (reads t) (λ n. in_nothing t n),
+    λ r. subst (λ u. Contains (u ∷ []) t) (sym (only t r)) (contains_head t []),
+  );
+}
+
 -- before the change alone
 pub are_early : (change a b x : ℤ) → int_lt (instant_at x a) change ≡ true → int_lt (instant_at x b) change ≡ true
     → AreInstants (total_around change a b) x (instant_at x a ∷ [])
-are_early change a b x h k = record {
-  rising = one_rises _;
-  exact = λ t. (
-    λ c. cases_more (instant_at x a) [] t c (reads_early change a b x t h) (λ n. in_nothing t n),
-    λ r. by_side change a b x t r
-        (λ _ e. subst (λ s. Contains (s ∷ []) t) (sym e) (contains_head t []))
-        (λ n _. not_both _ k n),
-  );
-}
+are_early change a b x h k =
+    alone (total_around change a b) x (instant_at x a) (λ t. reads_early change a b x t h)
+    (λ t r. by_side change a b x t r (λ _ e. e) (λ n _. not_both _ k n))
 
 -- from the change on alone
 pub are_late : (change a b x : ℤ) → int_lt (instant_at x a) change ≡ false → int_lt (instant_at x b) change ≡ false
     → AreInstants (total_around change a b) x (instant_at x b ∷ [])
-are_late change a b x h k = record {
-  rising = one_rises _;
-  exact = λ t. (
-    λ c. cases_more (instant_at x b) [] t c (reads_late change a b x t k) (λ n. in_nothing t n),
-    λ r. by_side change a b x t r
-        (λ n _. not_both _ n h)
-        (λ _ e. subst (λ s. Contains (s ∷ []) t) (sym e) (contains_head t [])),
-  );
-}
+are_late change a b x h k =
+    alone (total_around change a b) x (instant_at x b) (λ t. reads_late change a b x t k)
+    (λ t r. by_side change a b x t r (λ n _. not_both _ n h) (λ _ e. e))
 
 -- on neither side: a gap
 pub are_none : (change a b x : ℤ) → int_lt (instant_at x a) change ≡ false → int_lt (instant_at x b) change ≡ true
