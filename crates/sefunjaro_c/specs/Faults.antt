@@ -1,22 +1,10 @@
 -- Why a source or a zone isn't opened, in numbers.
-use Rattle.std.specs.{Prelude.{◌≡◌, ◌<◌, ◌⊎◌, ℕ, List, length, nat_lt, Option, Some, None, option_map, if◌then◌else◌}, Str.{is_utf8}}
-use Rattle.zone_values.specs.declared.fault.FaultKind.{FaultKind}
-use Rattle.zone_values.specs.declared.fault.FaultKind.TheVariants.{
-  FailedYearParse,
-  FailedMonthParse,
-  FailedWeekdayParse,
-  InvalidLineType,
-  TypeColumnContainedNonHyphen,
-  CouldNotParseSaving,
-  InvalidDaySpec,
-  InvalidTimeSpecAndType,
-  NonWallClockInTimeSpec,
-}
-use Rattle.zone_source.specs.{Faults.{SourceFault, source_fault}, Told.{told_by_source}, declared.error.BuildKind.{BuildKind}, declared.error.SourceError.{SourceError}}
+use Rattle.std.specs.{Prelude.{◌≡◌, ◌+◌, ◌%◌, ◌<◌, ◌⊎◌, ℕ, List, length, nat_lt, Option, Some, None, option_map, if◌then◌else◌}, Str.{is_utf8}}
+use denote.Enum.Declared.{tag_of as place_among}
+use Rattle.zone_values.specs.{contracts.fault.FaultKind.{the_type as kinds}, declared.fault.FaultKind.{FaultKind}}
+use Rattle.zone_source.specs.{Faults.{SourceFault, source_fault}, Told.{told_by_source}, contracts.error.BuildKind.{the_type as joins}, declared.error.BuildKind.{BuildKind}, declared.error.SourceError.{SourceError}}
 use Rattle.zone_source.specs.Faults as source
-use Rattle.zone_source.specs.declared.error.BuildKind.TheVariants as join
-use Rattle.zone_spans.specs.declared.fault.SpanFault.{SpanFault}
-use Rattle.zone_spans.specs.declared.fault.SpanFault.TheVariants as span
+use Rattle.zone_spans.specs.{contracts.fault.SpanFault.{the_type as schedule_faults}, declared.fault.SpanFault.{SpanFault}}
 use Rattle.zone_table.specs.declared.table.Table.{Table}
 use Rattle.tz_zone.specs.declared.compile.ZoneFault.{ZoneFault}
 use Rattle.tz_zone.specs.declared.compile.ZoneFault.TheVariants as zone
@@ -30,34 +18,17 @@ use Rattle.sefunjaro_c.specs.declared.fault.Fault.{Fault}
 abbrev pub plain : ℕ → Fault
 plain status = record { status = status; cause = 0; line = 0 }
 
--- the cause of a line that can't be read
+-- the cause of a line that can't be read, from 1 in the order of the variants
 abbrev pub kind_number : FaultKind → ℕ
-kind_number FailedYearParse = 1
-kind_number FailedMonthParse = 2
-kind_number FailedWeekdayParse = 3
-kind_number InvalidLineType = 4
-kind_number TypeColumnContainedNonHyphen = 5
-kind_number CouldNotParseSaving = 6
-kind_number InvalidDaySpec = 7
-kind_number InvalidTimeSpecAndType = 8
-kind_number NonWallClockInTimeSpec = 9
+kind_number kind = place_among kinds kind + 1
 
 -- the cause of a line that may not follow those before it
 abbrev pub join_number : BuildKind → ℕ
-join_number join.SurpriseContinuationLine = 1
-join_number join.UnknownRuleset = 2
-join_number join.DuplicateLink = 3
-join_number join.DuplicateZone = 4
+join_number kind = place_among joins kind + 1
 
--- the cause of a zone without a schedule
+-- the cause of a zone without a schedule; 0 for want of memory, the last of them
 abbrev pub schedule_number : SpanFault → ℕ
-schedule_number span.UnknownRuleset = 1
-schedule_number span.MissingUntil = 2
-schedule_number span.YearRange = 3
-schedule_number span.RuleYears = 4
-schedule_number span.DayRange = 5
-schedule_number span.NoStandardSpan = 6
-schedule_number span.NoMemory = 0
+schedule_number fault = (place_among schedule_faults fault + 1) % 7
 
 abbrev pub fault_told : SourceFault → Fault
 fault_told (source.not_text n) = record { status = not_text; cause = 0; line = n }

@@ -1,5 +1,5 @@
 -- The string that carries a zone on, and the zone's file; and why there is none, in numbers.
-use Rattle.std.specs.Prelude.{◌≡◌, ◌⊎◌, ℕ, ℤ, Bool, List, length, Option, None, option_map}
+use Rattle.std.specs.Prelude.{◌≡◌, ◌⊎◌, ℕ, zero, suc, ℤ, Bool, List, length, Option, None, option_map}
 use Rattle.zone_tail.specs.{Carried.{CarriesOn}, Tails.{tail_fault, IsTail}, declared.outcome.TailFault.{TailFault}}
 use Rattle.zone_tail.specs.declared.outcome.TailFault.TheVariants as tail
 use Rattle.zone_tzif_core.specs.{Denotes.{Denotes}, Totals.{file_total_at}, Zones.{ZoneValue}, declared.values.WriteFault.{WriteFault}}
@@ -16,6 +16,11 @@ use Rattle.sefunjaro_c.specs.{Faults.{plain, IsRefused}, declared.fault.Fault.{F
 abbrev pub none_for : ℕ → Fault
 none_for cause = record { status = none_there; cause = cause; line = 0 }
 
+-- the same, or for want of memory, whose number is 0
+abbrev pub none_told : ℕ → Fault
+none_told zero = plain out_of_memory
+none_told (suc n) = none_for (suc n)
+
 -- ---- the string
 
 -- the cause of a zone without a string
@@ -26,10 +31,7 @@ tail_number tail.Name = 3
 tail_number tail.NoMemory = 0
 
 abbrev pub tail_told : TailFault → Fault
-tail_told tail.Shape = none_for (tail_number tail.Shape)
-tail_told tail.OffsetRange = none_for (tail_number tail.OffsetRange)
-tail_told tail.Name = none_for (tail_number tail.Name)
-tail_told tail.NoMemory = plain out_of_memory
+tail_told fault = none_told (tail_number fault)
 
 -- why a zone has no string, if so
 abbrev pub tail_due : OpenZone → Option Fault
