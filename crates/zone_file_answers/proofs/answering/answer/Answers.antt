@@ -14,25 +14,19 @@ returns-in_default-read_request-clause-err c =
 
 pub returns-in-Ok-true-clause-accepted : goal.returns-in-Ok-true-clause-accepted
 returns-in-Ok-true-clause-accepted c =
-    let text = c.in-Some.ensures.text in
-    let request = c.in-Some-read_request.request in
-    let reads = asks request_of c.args.line.now c.in-Some.asked.now (asked request) text.1 text.0 c.in-Some-read_request.ensures in
-    refusal_is (told_total_at (value_of c.args.zone.now) (says_of c.args.zone.now)) c.args.number c.args.line.now (asked request) reads
+    let reads = asks request_of c.args.line.now c.in-Some.asked.now (asked c.in-Some-read_request.request) c.in-Some.ensures.text.1 c.in-Some.ensures.text.0 c.in-Some-read_request.ensures in
+    refusal_is (told_total_at (value_of c.args.zone.now) (says_of c.args.zone.now)) c.args.number c.args.line.now _ reads
     ∙ ap (λ b. cond b None (Some (range c.args.number))) (sym c.in-Ok-true.ensures.dates ∙ c.in-Ok-true.field-0-test)
 
 pub returns-in-Ok-true-clause-text : goal.returns-in-Ok-true-clause-text
 returns-in-Ok-true-clause-text c =
-    let text = c.in-Some.ensures.text in
-    let request = c.in-Some-read_request.request in
-    let reads = asks request_of c.args.line.now c.in-Some.asked.now (asked request) text.1 text.0 c.in-Some-read_request.ensures in
+    let reads = asks request_of c.args.line.now c.in-Some.asked.now (asked c.in-Some-read_request.request) c.in-Some.ensures.text.1 c.in-Some.ensures.text.0 c.in-Some-read_request.ensures in
     c.in-Ok-true.ensures.line c.in-Ok-true.field-0-test
-    ∙ ap (λ text. text ++ answer_text (shown_at (told_total_at (value_of c.args.zone.now) (says_of c.args.zone.now)) (asked request))) c.clear.ensures.items
-    ∙ sym (line_is (told_total_at (value_of c.args.zone.now) (says_of c.args.zone.now)) c.args.line.now (asked request) reads)
+    ∙ ap (λ text. text ++ answer_text (shown_at (told_total_at (value_of c.args.zone.now) (says_of c.args.zone.now)) (asked c.in-Some-read_request.request))) c.clear.ensures.items
+    ∙ sym (line_is (told_total_at (value_of c.args.zone.now) (says_of c.args.zone.now)) c.args.line.now _ reads)
 
 pub returns-in-Ok-false-clause-err : goal.returns-in-Ok-false-clause-err
 returns-in-Ok-false-clause-err c =
-    let text = c.in-Some.ensures.text in
-    let request = c.in-Some-read_request.request in
-    let reads = asks request_of c.args.line.now c.in-Some.asked.now (asked request) text.1 text.0 c.in-Some-read_request.ensures in
-    refusal_is (told_total_at (value_of c.args.zone.now) (says_of c.args.zone.now)) c.args.number c.args.line.now (asked request) reads
+    let reads = asks request_of c.args.line.now c.in-Some.asked.now (asked c.in-Some-read_request.request) c.in-Some.ensures.text.1 c.in-Some.ensures.text.0 c.in-Some-read_request.ensures in
+    refusal_is (told_total_at (value_of c.args.zone.now) (says_of c.args.zone.now)) c.args.number c.args.line.now _ reads
     ∙ ap (λ b. cond b None (Some (range c.args.number))) (sym c.in-Ok-false.ensures.dates ∙ c.in-Ok-false.field-0-test)
