@@ -2,7 +2,7 @@
 use Rattle.std.proofs.Common.{◌≡◌, ◌⊎◌, ℕ, ◌+◌, ◌<◌, ◌≤◌, List, [], Option, Some, None, IfSome, length, refl, subst, inl, inr, arith}
 use Rattle.zone_outside.specs.{Outside.{Counted, Rose, TooMuch}, Seen.{InputSeen}, declared.outside.ReadEnd.{ReadEnd}, declared.outside.TheConstants.{LIMIT}}
 use Rattle.zone_outside.specs.declared.outside.ReadEnd.TheVariants as read
-use Rattle.zone_source.specs.{Statuses.{IsSilent, IsWritten}, Runs.{Seen}}
+use Rattle.zone_source.specs.{Statuses.{IsWritten}, Runs.{Seen}}
 use Rattle.zone_source.specs.declared.running.Status.TheVariants as status
 
 -- a text was read to its end
@@ -43,24 +43,6 @@ pub neither_long : (source requests : List ℕ) → length source ≤ LIMIT → 
     → (LIMIT < length source) ⊎ (LIMIT < length requests) → ⊥
 neither_long source requests short few (inl long) = omega (arith, short, long)
 neither_long source requests short few (inr long) = omega (arith, few, long)
-
-pub silent_not_done : IsSilent status.Done → ⊥
-silent_not_done (inl e) = absurd (cc)
-silent_not_done (inr (inl e)) = absurd (cc)
-silent_not_done (inr (inr (inl e))) = absurd (cc)
-silent_not_done (inr (inr (inr e))) = absurd (cc)
-
-pub silent_not_fault : IsSilent status.Fault → ⊥
-silent_not_fault (inl e) = absurd (cc)
-silent_not_fault (inr (inl e)) = absurd (cc)
-silent_not_fault (inr (inr (inl e))) = absurd (cc)
-silent_not_fault (inr (inr (inr e))) = absurd (cc)
-
-pub silent_not_write : IsSilent status.Write → ⊥
-silent_not_write (inl e) = absurd (cc)
-silent_not_write (inr (inl e)) = absurd (cc)
-silent_not_write (inr (inr (inl e))) = absurd (cc)
-silent_not_write (inr (inr (inr e))) = absurd (cc)
 
 -- where both texts are told, what holds of each text that is left to read
 pub if_told : (o p : Option (List ℕ)) (P : List ℕ → List ℕ → Type 0) → ((s r : List ℕ) → p ≡ Some r → P s r) → IfSome o (λ s. IfSome p (P s))

@@ -1,7 +1,7 @@
-use Rattle.std.proofs.{Common.{◌≡◌, ℕ, ◌+◌, ◌<◌, List, length, map, drop, slice_index_or, ℤ, Ok, ap, sym, ◌∙◌}, lemmas.List.{at_drop_all, at_drop_more}}
+use Rattle.std.proofs.{Common.{◌≡◌, ℕ, ◌+◌, ◌<◌, List, length, map, drop, slice_index_or, ℤ, Ok, Err, ap, sym, ◌∙◌}, lemmas.List.{at_drop_all, at_drop_more}}
 use Rattle.civil_base.specs.DateTimes.{instant}
 use Rattle.zone_moments.specs.{Shown.{asked}, declared.answer_form.AnswerForm.{AnswerForm}, declared.instant.Asked.{Asked}}
-use Rattle.zone_replies.specs.{Faults.{Due, behind}, Instants.{line_due}, Views.{ZoneView}}
+use Rattle.zone_replies.specs.{Faults.{Due, behind}, Instants.{line_due}, Views.{ZoneView}, declared.fault.ReplyFault.{ReplyFault}}
 use Rattle.zone_command.specs.{Answers.{◌>>=◌}, Replies.{at_lines, instant_at, instants_at}}
 use Rattle.zone_command.proofs.replies.at_lines.Goals as goal
 
@@ -16,6 +16,13 @@ next_is form view name now times n item text t due l is at e =
     ∙ ap (λ x. behind text (line_due form view name (instant_at now (asked x))) >>= next) (sym is)
     ∙ ap (λ u. behind text (line_due form view name u) >>= next) (sym at) ∙ ap (λ d. d >>= next) (sym e)
 
+-- a fault of the next ends them all
+ends_at : (form : AnswerForm) (view : ZoneView) (name : List ℕ) (now : ℤ) (times : List Asked) (n : ℕ) (item : Asked) (text : List ℕ) (t : ℤ) (fault : ReplyFault) (all : Due)
+    → n < length times → item ≡ slice_index_or times n item → t ≡ instant_at now (asked item) → line_due form view name t ≡ Err fault
+    → at_lines form view name text (instants_at now (map asked (drop n times))) ≡ all → all ≡ Err fault
+ends_at form view name now times n item text t fault all l is at e left =
+    sym left ∙ next_is form view name now times n item text t (Err fault) l is at (sym (ap (behind text) e))
+
 pub loop-time-preserved : goal.loop-time-preserved
 loop-time-preserved g c =
     sym (next_is c.args.style.now.form (g.Z.ReplyZone.view c.args.zone.now) c.args.style.now.name.now (instant c.args.now.now) c.args.times.now
@@ -24,19 +31,15 @@ loop-time-preserved g c =
 
 pub returns-in-Err-OutOfYears : goal.returns-in-Err-OutOfYears
 returns-in-Err-OutOfYears g c =
-    let fault = rw c.in-Err-OutOfYears.field-0-is at c.in-Err-OutOfYears.ensures.cause in
-    sym c.loop-time.invariant
-    ∙ next_is c.args.style.now.form (g.Z.ReplyZone.view c.args.zone.now) c.args.style.now.name.now (instant c.args.now.now) c.args.times.now
-    c.loop-time.time-index c.time-item.result c.loop-time.text.items (instant c.moment_of-at.result) _ c.loop-time-test.true
-    c.time-item.is c.moment_of-at.ensures (sym (ap (behind c.loop-time.text.items) fault))
+    ends_at c.args.style.now.form (g.Z.ReplyZone.view c.args.zone.now) c.args.style.now.name.now (instant c.args.now.now) c.args.times.now
+    c.loop-time.time-index c.time-item.result c.loop-time.text.items (instant c.moment_of-at.result) _ _ c.loop-time-test.true
+    c.time-item.is c.moment_of-at.ensures (rw c.in-Err-OutOfYears.field-0-is at c.in-Err-OutOfYears.ensures.cause) c.loop-time.invariant
 
 pub returns-in-Err-Untold : goal.returns-in-Err-Untold
 returns-in-Err-Untold g c =
-    let fault = rw c.in-Err-Untold.field-0-is at c.in-Err-Untold.ensures.cause in
-    sym c.loop-time.invariant
-    ∙ next_is c.args.style.now.form (g.Z.ReplyZone.view c.args.zone.now) c.args.style.now.name.now (instant c.args.now.now) c.args.times.now
-    c.loop-time.time-index c.time-item.result c.loop-time.text.items (instant c.moment_of-at.result) _ c.loop-time-test.true
-    c.time-item.is c.moment_of-at.ensures (sym (ap (behind c.loop-time.text.items) fault))
+    ends_at c.args.style.now.form (g.Z.ReplyZone.view c.args.zone.now) c.args.style.now.name.now (instant c.args.now.now) c.args.times.now
+    c.loop-time.time-index c.time-item.result c.loop-time.text.items (instant c.moment_of-at.result) _ _ c.loop-time-test.true
+    c.time-item.is c.moment_of-at.ensures (rw c.in-Err-Untold.field-0-is at c.in-Err-Untold.ensures.cause) c.loop-time.invariant
 
 pub returns : goal.returns
 returns g c =

@@ -1,5 +1,5 @@
 use Rattle.std.proofs.Common.{Err, refl, ap}
-use Rattle.zone_source.proofs.EndLemmas.{done_ends, fault_ends, failed_ends, input_ends}
+use Rattle.zone_source.proofs.EndLemmas.{both_of, done_ends, fault_ends, failed_ends, input_ends}
 use Rattle.zone_source.proofs.running.run_over.Goals as goal
 
 pub returns-in-Err-read_all : goal.returns-in-Err-read_all
@@ -17,45 +17,18 @@ returns-in-Err-read_all g c =
 
 pub returns-in-Done : goal.returns-in-Done
 returns-in-Done g c =
-    let responds = rw (c.deref.ensures.value, c.deref-2.ensures.value) at c.in-Done.ensures in
     (done_ends (g.A.TextAnswers.writes c.args.answers.now) (g.met.A.TextAnswers.ends_well c.args.answers.now) c.args.name.now _ _ c.in-Ok.text.items c.in-Ok-read_all.requests.items
-    (record {
-      shelf = record { text = c.in-Ok.ensures.bytes; within = c.in-Ok.ensures.within; given = c.in-Ok.ensures.ok_given };
-      input =
-          record {
-            text = c.in-Ok-read_all.ensures.bytes;
-            within = c.in-Ok-read_all.ensures.within;
-            given = c.in-Ok-read_all.ensures.ok_given;
-          };
-    })
-    responds)
+    (both_of c.in-Ok.ensures.bytes c.in-Ok.ensures.within c.in-Ok.ensures.ok_given c.in-Ok-read_all.ensures.bytes c.in-Ok-read_all.ensures.within c.in-Ok-read_all.ensures.ok_given)
+    (rw (c.deref.ensures.value, c.deref-2.ensures.value) at c.in-Done.ensures))
 
 pub returns-in-Fault : goal.returns-in-Fault
 returns-in-Fault g c =
-    let responds = rw (c.deref.ensures.value, c.deref-2.ensures.value) at c.in-Fault.ensures in
     (fault_ends (g.A.TextAnswers.writes c.args.answers.now) (g.met.A.TextAnswers.ends_well c.args.answers.now) c.args.name.now _ _ c.in-Ok.text.items c.in-Ok-read_all.requests.items
-    (record {
-      shelf = record { text = c.in-Ok.ensures.bytes; within = c.in-Ok.ensures.within; given = c.in-Ok.ensures.ok_given };
-      input =
-          record {
-            text = c.in-Ok-read_all.ensures.bytes;
-            within = c.in-Ok-read_all.ensures.within;
-            given = c.in-Ok-read_all.ensures.ok_given;
-          };
-    })
-    responds)
+    (both_of c.in-Ok.ensures.bytes c.in-Ok.ensures.within c.in-Ok.ensures.ok_given c.in-Ok-read_all.ensures.bytes c.in-Ok-read_all.ensures.within c.in-Ok-read_all.ensures.ok_given)
+    (rw (c.deref.ensures.value, c.deref-2.ensures.value) at c.in-Fault.ensures))
 
 pub returns-in-Failed : goal.returns-in-Failed
 returns-in-Failed g c =
-    let responds = rw (c.deref.ensures.value, c.deref-2.ensures.value) at c.in-Failed.ensures in
     (failed_ends (g.A.TextAnswers.writes c.args.answers.now) (g.met.A.TextAnswers.ends_well c.args.answers.now) c.args.name.now _ _ c.in-Ok.text.items c.in-Ok-read_all.requests.items
-    (record {
-      shelf = record { text = c.in-Ok.ensures.bytes; within = c.in-Ok.ensures.within; given = c.in-Ok.ensures.ok_given };
-      input =
-          record {
-            text = c.in-Ok-read_all.ensures.bytes;
-            within = c.in-Ok-read_all.ensures.within;
-            given = c.in-Ok-read_all.ensures.ok_given;
-          };
-    })
-    responds)
+    (both_of c.in-Ok.ensures.bytes c.in-Ok.ensures.within c.in-Ok.ensures.ok_given c.in-Ok-read_all.ensures.bytes c.in-Ok-read_all.ensures.within c.in-Ok-read_all.ensures.ok_given)
+    (rw (c.deref.ensures.value, c.deref-2.ensures.value) at c.in-Failed.ensures))

@@ -1,26 +1,26 @@
-use Rattle.std.proofs.Common.{to_z-of_z, sym, ap, ◌∙◌}
+use Rattle.std.proofs.Common.{◌≡◌, ℕ, ℤ, Bool, to_z-of_z, sym, ap, ◌∙◌}
+use Rattle.tz_zone.specs.declared.set.FixedTimespanSet.{FixedTimespanSet}
 use Rattle.zone_tail.{specs.LastYear.{are_start_and_end}, specs.Shapes.{entry_in}, proofs.FormLemmas.{starts_first, ends_first, neither}}
 use Rattle.zone_tail.proofs.last_year.form_of_pair.Goals as goal
 
+-- the test of the offset that is kept
+tested : (set : FixedTimespanSet) (e f : ℕ) (offset kept : ℤ) (found test : Bool) → kept ≡ offset → found ≡ are_start_and_end kept (entry_in set e) (entry_in set f)
+    → found ≡ test → are_start_and_end offset (entry_in set e) (entry_in set f) ≡ test
+tested set e f offset kept found test same is by = ap (λ o. are_start_and_end o (entry_in set e) (entry_in set f)) (sym same) ∙ sym is ∙ by
+
 pub returns-then-are_start_and_end : goal.returns-then-are_start_and_end
 returns-then-are_start_and_end g c =
-    let set = g.S.SpanTable.seen c.args.set.now in
-    let same = to_z-of_z c.ranges.offset ∙ c.requires.offset in
-    starts_first set c.args.first c.args.second (rw c.requires.offset at c.requires.shape)
-    (ap (λ o. are_start_and_end o (entry_in set c.args.first) (entry_in set c.args.second)) (sym same) ∙ sym c.are_start_and_end.ensures ∙ c.if-are_start_and_end.true)
+    starts_first (g.S.SpanTable.seen c.args.set.now) c.args.first c.args.second (rw c.requires.offset at c.requires.shape)
+    (tested (g.S.SpanTable.seen c.args.set.now) c.args.first c.args.second _ _ _ _ (to_z-of_z c.ranges.offset ∙ c.requires.offset) c.are_start_and_end.ensures c.if-are_start_and_end.true)
 
 pub returns-then-are_start_and_end-2 : goal.returns-then-are_start_and_end-2
 returns-then-are_start_and_end-2 g c =
-    let set = g.S.SpanTable.seen c.args.set.now in
-    let same = to_z-of_z c.ranges.offset ∙ c.requires.offset in
-    ends_first set c.args.first c.args.second (rw c.requires.offset at c.requires.shape)
-    (ap (λ o. are_start_and_end o (entry_in set c.args.first) (entry_in set c.args.second)) (sym same) ∙ sym c.are_start_and_end.ensures ∙ c.if-are_start_and_end.false)
-    (ap (λ o. are_start_and_end o (entry_in set c.args.second) (entry_in set c.args.first)) (sym same) ∙ sym c.are_start_and_end-else-are_start_and_end.ensures ∙ c.if-are_start_and_end-2.true)
+    ends_first (g.S.SpanTable.seen c.args.set.now) c.args.first c.args.second (rw c.requires.offset at c.requires.shape)
+    (tested (g.S.SpanTable.seen c.args.set.now) c.args.first c.args.second _ _ _ _ (to_z-of_z c.ranges.offset ∙ c.requires.offset) c.are_start_and_end.ensures c.if-are_start_and_end.false)
+    (tested (g.S.SpanTable.seen c.args.set.now) c.args.second c.args.first _ _ _ _ (to_z-of_z c.ranges.offset ∙ c.requires.offset) c.are_start_and_end-else-are_start_and_end.ensures c.if-are_start_and_end-2.true)
 
 pub returns-else-are_start_and_end-2 : goal.returns-else-are_start_and_end-2
 returns-else-are_start_and_end-2 g c =
-    let set = g.S.SpanTable.seen c.args.set.now in
-    let same = to_z-of_z c.ranges.offset ∙ c.requires.offset in
-    neither set c.args.first c.args.second (rw c.requires.offset at c.requires.shape)
-    (ap (λ o. are_start_and_end o (entry_in set c.args.first) (entry_in set c.args.second)) (sym same) ∙ sym c.are_start_and_end.ensures ∙ c.if-are_start_and_end.false)
-    (ap (λ o. are_start_and_end o (entry_in set c.args.second) (entry_in set c.args.first)) (sym same) ∙ sym c.are_start_and_end-else-are_start_and_end.ensures ∙ c.if-are_start_and_end-2.false)
+    neither (g.S.SpanTable.seen c.args.set.now) c.args.first c.args.second (rw c.requires.offset at c.requires.shape)
+    (tested (g.S.SpanTable.seen c.args.set.now) c.args.first c.args.second _ _ _ _ (to_z-of_z c.ranges.offset ∙ c.requires.offset) c.are_start_and_end.ensures c.if-are_start_and_end.false)
+    (tested (g.S.SpanTable.seen c.args.set.now) c.args.second c.args.first _ _ _ _ (to_z-of_z c.ranges.offset ∙ c.requires.offset) c.are_start_and_end-else-are_start_and_end.ensures c.if-are_start_and_end-2.false)
