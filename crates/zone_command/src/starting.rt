@@ -4,9 +4,9 @@ ghost use Rattle.zone_command.specs.Starts.{HasRun, StartsZone, exit_of};
 
 use crate::answerer::Answerer;
 use crate::running::run_zone;
-use std::env;
 use std::process::{ExitCode, Termination};
 use zone_outside::{FileShelf, ProgramEnvironment, StdExchange, StdSink, SystemClock};
+use zone_source::{after_name, all_words};
 
 /// The words after the program's own name couldn't be taken.
 const NO_WORDS: u8 = 7;
@@ -67,26 +67,5 @@ fn ended_by(status: u8) -> ZoneStarted
 {
     ZoneStarted {
         code: ExitCode::from(status),
-    }
-}
-
-/// The words after the first one, which is the program's own name.
-fn after_name(all: &[String]) -> &[String]
-    ensures { result.now ≡ drop 1 all.now }
-{
-    match all {
-        [_, words @ ..] => words,
-        [] => &[],
-    }
-}
-
-/// All words of the process, or none, where they can't be taken from the system or memory runs out.
-fn all_words(rt: &HostRuntime) -> Option<Vec<String>> {
-    let Ok(words) = env::args(rt) else {
-        return None;
-    };
-    match words.collect(rt.alloc()) {
-        Ok(words) => Some(words),
-        Err(_) => None,
     }
 }
