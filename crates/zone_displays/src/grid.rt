@@ -31,16 +31,31 @@ pub(crate) fn add_number(into: &mut Vec<u8>, number: u128) -> Result<(), AllocEr
     into.extend_from_slice(Buffer::new().format(number).as_bytes())
 }
 
+/// Adds two numbers between three texts.
+#[tactic(auto, using(std::proofs::Common::append_assoc))]
+pub(crate) fn add_two(
+    into: &mut Vec<u8>,
+    before: &[u8],
+    x: u128,
+    between: &[u8],
+    y: u128,
+    behind: &[u8],
+) -> Result<(), AllocError>
+    ensures { OnOk result (into.new.items ≡ into.old.items ++ before.now ++ decimal x ++ between.now ++ decimal y ++ behind.now) }
+{
+    add_bytes(into, before)?;
+    add_number(into, x)?;
+    add_bytes(into, between)?;
+    add_number(into, y)?;
+    add_bytes(into, behind)
+}
+
 /// Adds the begin of a text at a place.
 #[tactic(auto, using(std::proofs::Common::append_assoc), unfolding(crate::specs::Grids::text_at))]
 pub(crate) fn add_text_at(into: &mut Vec<u8>, x: u128, y: u128) -> Result<(), AllocError>
     ensures { OnOk result (into.new.items ≡ into.old.items ++ text_at x y) }
 {
-    add_bytes(into, b"<text x=\"")?;
-    add_number(into, x)?;
-    add_bytes(into, b"\" y=\"")?;
-    add_number(into, y)?;
-    add_bytes(into, b"\">")
+    add_two(into, b"<text x=\"", x, b"\" y=\"", y, b"\">")
 }
 
 /// The place of the line of the legend that so many stand above.
@@ -72,11 +87,14 @@ fn add_open(into: &mut Vec<u8>, frame: Frame, count: usize) -> Result<(), AllocE
 fn add_month_line(into: &mut Vec<u8>, x: u128, bottom: u128) -> Result<(), AllocError>
     ensures { OnOk result (into.new.items ≡ into.old.items ++ month_line x bottom) }
 {
-    add_bytes(into, b"<path class=\"grid\" d=\"M")?;
-    add_number(into, x)?;
-    add_bytes(into, b" 400V")?;
-    add_number(into, bottom)?;
-    add_bytes(into, b"\"/>")
+    add_two(
+        into,
+        b"<path class=\"grid\" d=\"M",
+        x,
+        b" 400V",
+        bottom,
+        b"\"/>",
+    )
 }
 
 /// Adds the line at the first of a month.
@@ -118,11 +136,14 @@ fn add_hour_text(into: &mut Vec<u8>, high: i8, below: u8) -> Result<(), AllocErr
 fn add_hour_line(into: &mut Vec<u8>, y: u128, right: u128) -> Result<(), AllocError>
     ensures { OnOk result (into.new.items ≡ into.old.items ++ hour_line y right) }
 {
-    add_bytes(into, b"<path class=\"grid\" d=\"M1200 ")?;
-    add_number(into, y)?;
-    add_bytes(into, b"H")?;
-    add_number(into, right)?;
-    add_bytes(into, b"\"/>")
+    add_two(
+        into,
+        b"<path class=\"grid\" d=\"M1200 ",
+        y,
+        b"H",
+        right,
+        b"\"/>",
+    )
 }
 
 /// Adds the line of the hour so many below the highest.

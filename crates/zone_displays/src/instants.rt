@@ -1,8 +1,7 @@
 //! The instants at which an alarm rings that is set to a local time.
 ghost use Rattle.std.specs.Prelude.{◌≡◌, [], ◌∷◌, map, IfOk};
 ghost use Rattle.civil_base.specs.{DateTimes.{instant}, Instants.{instant_at}};
-ghost use Rattle.zone_replies.specs.Skips.{after_of, before_of, skipping};
-ghost use Rattle.zone_displays.specs.Rings.{by_fold, by_gap, by_offset, rings_at, second_of};
+ghost use Rattle.zone_displays.specs.Rings.{by_fold, by_gap, rings_at, second_of};
 ghost use Rattle.zone_words.specs.declared.task.FoldRule.TheVariants.{First};
 
 use civil_base::{OffsetDateTime, PlainDateTime, UtcOffset};
@@ -48,34 +47,6 @@ fn at_offset(
     Ok(found)
 }
 
-/// The instant of a local time by the offset before the change that skips it.
-fn by_offset_before<Z: ReplyZone>(
-    alloc: Global,
-    zone: &Z,
-    local: &PlainDateTime,
-) -> Result<Vec<OffsetDateTime>, AllocError>
-    ensures { IfOk result (λ found. map instant found.items ≡ by_offset (before_of (Z.view zone.now)) local.now (skipping (Z.view zone.now) local.now)) }
-{
-    match skipping(alloc, zone, local)? {
-        Some(second) => at_offset(alloc, local, zone.offset_before(second)),
-        None => Ok(Vec::new(alloc)),
-    }
-}
-
-/// The instant of a local time by the offset after the change that skips it.
-fn by_offset_after<Z: ReplyZone>(
-    alloc: Global,
-    zone: &Z,
-    local: &PlainDateTime,
-) -> Result<Vec<OffsetDateTime>, AllocError>
-    ensures { IfOk result (λ found. map instant found.items ≡ by_offset (after_of (Z.view zone.now)) local.now (skipping (Z.view zone.now) local.now)) }
-{
-    match skipping(alloc, zone, local)? {
-        Some(second) => at_offset(alloc, local, zone.offset_at(second)),
-        None => Ok(Vec::new(alloc)),
-    }
-}
-
 /// The instant at which it rings where clocks skip a local time, if it does.
 fn by_gap<Z: ReplyZone>(
     alloc: Global,
@@ -85,10 +56,13 @@ fn by_gap<Z: ReplyZone>(
 ) -> Result<Vec<OffsetDateTime>, AllocError>
     ensures { IfOk result (λ found. map instant found.items ≡ by_gap rule (Z.view zone.now) local.now) }
 {
+    let Some(second) = skipping(alloc, zone, local)? else {
+        return Ok(Vec::new(alloc));
+    };
     match rule {
         GapRule::Skip => Ok(Vec::new(alloc)),
-        GapRule::Before => by_offset_before(alloc, zone, local),
-        GapRule::After => by_offset_after(alloc, zone, local),
+        GapRule::Before => at_offset(alloc, local, zone.offset_before(second)),
+        GapRule::After => at_offset(alloc, local, zone.offset_at(second)),
     }
 }
 

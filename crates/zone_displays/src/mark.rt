@@ -6,20 +6,16 @@ ghost use Rattle.zone_displays.specs.{Escapes.{escaped_due}, Lines.{circle_text,
 
 use crate::axes::{Frame, x_of, y_at};
 use crate::escape::add_escaped;
-use crate::grid::add_number;
+use crate::grid::add_two;
 use std::alloc::{AllocError, Global};
 use zone_moments::AnswerForm;
-use zone_replies::{Kind, ReplyFault, ReplyZone, Style, add_bytes, add_change_line, kind_between};
+use zone_replies::{Kind, ReplyFault, ReplyZone, Style, add_change_line, kind_between};
 
 #[tactic(auto, using(std::proofs::Common::append_assoc), unfolding(crate::specs::Lines::place_text))]
 fn add_place(into: &mut Vec<u8>, x: u128, y: u128) -> Result<(), AllocError>
     ensures { OnOk result (into.new.items ≡ into.old.items ++ place_text x y) }
 {
-    add_bytes(into, b"\" cx=\"")?;
-    add_number(into, x)?;
-    add_bytes(into, b"\" cy=\"")?;
-    add_number(into, y)?;
-    add_bytes(into, b"\" r=\"60\"><title>")
+    add_two(into, b"\" cx=\"", x, b"\" cy=\"", y, b"\" r=\"60\"><title>")
 }
 
 /// Adds the circle of a change, up to its title.
