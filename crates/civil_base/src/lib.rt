@@ -19,7 +19,7 @@ pub use civil_parts::{
 pub use date::Date;
 pub use offset_date_time::OffsetDateTime;
 pub use plain_date_time::{PlainDateTime, PrimitiveDateTime};
-pub use read::{read_local, read_zoned, spaced_offset, write_local, write_zoned};
+pub use read::{read_local, read_zoned, spaced_offset, spaced_time, write_local, write_zoned};
 pub use time::Time;
 pub use timestamp::Timestamp;
 pub use utc_date_time::UtcDateTime;

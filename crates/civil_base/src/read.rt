@@ -332,7 +332,7 @@ fn put_local(into: &mut [u8], local: PlainDateTime) -> usize
         after_sign,
         &date_bytes(year.unsigned_abs(), u8::from(month), day),
     );
-    let after_second = put(into, after_date, &spaced_time(time));
+    let after_second = put(into, after_date, &spaced_second(time));
     put(into, after_second, &nanosecond_bytes(time.nanosecond()))
 }
 
@@ -370,7 +370,7 @@ fn date_bytes(year: u32, month: u8, day: u8) -> [u8; 10]
 }
 
 // A space, the hour, the minute, the second and a point.
-fn spaced_time(time: Time) -> [u8; 10]
+fn spaced_second(time: Time) -> [u8; 10]
     ensures { result ≡ 32 ∷ two_digits (hour_of time) ++ 58 ∷ two_digits (minute_of time)
         ++ 58 ∷ two_digits (second_of time) ++ 46 ∷ [] }
 {
@@ -400,6 +400,18 @@ pub fn spaced_offset(offset: UtcOffset) -> [u8; 10]
     let ((h1, h2), (m1, m2)) = (pair(size / 3600), pair(size / 60 % 60));
     let (s1, s2) = pair(size % 60);
     [b' ', sign_byte(offset), h1, h2, b':', m1, m2, b':', s1, s2]
+}
+
+/// A space and a time of day, in nanoseconds from midnight, as `hh:mm:ss.nnnnnnnnn`: what stands behind the date in a local text.
+pub fn spaced_time(nanos: u64) -> [u8; 19]
+    requires { nanos < nanos_per_day }
+    ensures { result ≡ 32 ∷ time_text nanos }
+{
+    let time = Time::at_nanos(nanos);
+    let mut bytes = [0; 19];
+    let end = put(&mut bytes, 0, &spaced_second(time));
+    put(&mut bytes, end, &nanosecond_bytes(time.nanosecond()));
+    bytes
 }
 
 fn sign_byte(offset: UtcOffset) -> u8

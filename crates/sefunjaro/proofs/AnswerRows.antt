@@ -5,7 +5,8 @@ use Rattle.civil_base.specs.{Instants.{seconds_of}, Layout.{day_part, time_part}
 use Rattle.tz_zone.specs.{SecondLaws.{second_is}, declared.set.FixedTimespanSet.{FixedTimespanSet}}
 use Rattle.zone_spans.specs.{Entries.{Entry}, declared.span.FixedTimespan.{FixedTimespan}}
 use Rattle.zone_tzif_core.specs.Zones.{KindValue}
-use Rattle.sefunjaro.specs.{Answers.{begun_at, end_second, ended_at, least_second, IsAnswer, IsAnswered, IsHeldOn}, Changes.{next_after, settled_changes}, Clocks.{clock_at}, Rooms.{filled}, declared.answer.Answer.{Answer}}
+use Rattle.tz_lookup.specs.Stretches.{least_second}
+use Rattle.sefunjaro.specs.{Answers.{begun_at, end_second, ended_at, IsAnswer, IsAnswered, IsHeldOn}, Changes.{next_after, settled_changes}, Clocks.{clock_at}, Rooms.{filled}, declared.answer.Answer.{Answer}}
 
 abbrev jump : ℤ → ℤ
 jump t = cond (int_lt t (pos 0)) (pos 0) (pos 3600)

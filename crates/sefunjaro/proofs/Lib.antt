@@ -17,7 +17,6 @@ mod OnlyLemmas
 mod ReplyRows
 mod ReleaseLemmas
 mod ReplyLemmas
-mod StretchLemmas
 mod RoomLemmas
 mod ShownLemmas
 pub mod ShownRows

@@ -3,12 +3,8 @@ use Rattle.std.specs.Prelude.{◌≡◌, ◌<◌, ◌≤◌, ℕ, zero, suc, ℤ
 use Rattle.civil_base.specs.{DateTimes.{instant, local_of, offset_of}, Instants.{local_at, seconds_of}, Layout.{day_part, time_part}, Ranges.{is_in_years}, declared.offset_date_time.OffsetDateTime.{OffsetDateTime}}
 use Rattle.zone_spans.specs.declared.span.FixedTimespan.{FixedTimespan}
 use Rattle.tz_zone.specs.{Sets.{shifts_of, span_in, total_of_span}, Spans.{Shift, shift_at, IsCut}, declared.set.FixedTimespanSet.{FixedTimespanSet}}
-use Rattle.sefunjaro.specs.{Answers.{end_second, least_second, up_to_end}, Clocks.{clock_at}, Rooms.{filled}, declared.answer.Answer.{Answer}, declared.answer.Around.{Around}}
-
--- the second from which a span is in force, by its number: the first from the least of all on
-abbrev pub begin_second : ℤ → List Shift → ℕ → ℤ
-begin_second least shifts zero = least
-begin_second least shifts (suc k) = (shift_at shifts k).0
+use Rattle.tz_lookup.specs.Stretches.{begin_second, least_second}
+use Rattle.sefunjaro.specs.{Answers.{end_second, up_to_end}, Clocks.{clock_at}, Rooms.{filled}, declared.answer.Answer.{Answer}, declared.answer.Around.{Around}}
 
 -- a span of a set is in force throughout some seconds before the end, among them this one: up to the entry behind it
 pub record IsAround (set : FixedTimespanSet) (second : ℤ) (around : Around) : Type 0 where

@@ -1,7 +1,8 @@
 -- One of so many readings, of which the first two are given; and the only one by what is known of a zone.
 use Rattle.std.specs.Prelude.{ℕ, ℤ, nat_lt, if◌then◌else◌}
-use Rattle.sefunjaro.specs.{Found.{found_of, IsFound}, declared.found.FoldRule.{FoldRule}, declared.found.FoldRule.TheVariants.{First, Second}, declared.found.Found.{Found}, declared.found.GapRule.{GapRule}, declared.stretch.Stretch.{Stretch}}
-use Rattle.sefunjaro.specs.{declared.zone.Reading.{Reading}, Steadiness.{IsSteady}, Stretches.{IsKnown}}
+use Rattle.tz_lookup.specs.{declared.stretch.Stretch.{Stretch}, Stretches.{IsKnown}}
+use Rattle.sefunjaro.specs.{Found.{found_of, IsFound}, declared.found.FoldRule.{FoldRule}, declared.found.FoldRule.TheVariants.{First, Second}, declared.found.Found.{Found}, declared.found.GapRule.{GapRule}, declared.zone.Reading.{Reading}}
+use Rattle.sefunjaro.specs.Steadiness.{IsSteady}
 
 -- the second only where the rule says so and there is one
 abbrev pub taken : FoldRule → ℕ → Reading → Reading → Reading

@@ -27,4 +27,3 @@ pub mod ChangeSteps
 pub mod FoundSteps
 pub mod GapPlaces
 pub mod Steadiness
-pub mod Stretches

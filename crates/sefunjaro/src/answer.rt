@@ -10,10 +10,9 @@ use crate::clock::Clock;
 use crate::offsets::is_near;
 use crate::room::fill;
 use crate::shown::{clock_of, local_of};
-use crate::stretch::{begin_of, end_of};
 use crate::zone::in_force;
 use civil_base::OffsetDateTime;
-use tz_lookup::{OffsetDateTimeExt, SpanTable};
+use tz_lookup::{OffsetDateTimeExt, SpanTable, span_begin, span_end};
 use tz_tzif::TzifTz;
 use tz_zone::offset_of;
 
@@ -100,8 +99,8 @@ fn seconds_around<S: SpanTable>(set: &S, second: i64) -> Around
     ensures { IsAround (S.seen set.now) second result }
 {
     let span = span_in_force_at(set, second);
-    let from = begin_of(set, span, second);
-    let until = to_end(end_of(set, span, second));
+    let from = span_begin(set, span, second);
+    let until = to_end(span_end(set, span, second));
     Around { span, from, until }
 }
 

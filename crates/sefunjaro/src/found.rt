@@ -2,17 +2,17 @@
 ghost use Rattle.std.specs.Prelude.{◌≡◌, ◌<◌, ℤ, IfSome, MatchOption, length, slice_index_or};
 ghost use Rattle.civil_base.specs.{Instants.{nanos_of}, Ranges.{IsInYears}};
 ghost use Rattle.tz_tzif.specs.{InForce.{told_total_at}, Zones.{value_of, says_of}};
-ghost use Rattle.sefunjaro.specs.{Answered.{AreReadings}, Clocks.{clock_shown}, Found.{by_gap, by_offset, AreFound, AreLocalTimes, AreToldOf, IsFirstFaulty, IsFound}, FoundSteps.{by_count, IsOnly}, Steadiness.{IsSteady}, Stretches.{IsKnown, IsStretch}};
-ghost use Rattle.sefunjaro.specs.Zones.{total_in};
+ghost use Rattle.tz_lookup.specs.Stretches.{IsKnown, IsStretch};
+ghost use Rattle.sefunjaro.specs.{Answered.{AreReadings}, Clocks.{clock_shown}, Found.{by_gap, by_offset, AreFound, AreLocalTimes, AreToldOf, IsFirstFaulty, IsFound}, FoundSteps.{by_count, IsOnly}, Steadiness.{IsSteady}, Zones.{total_in}};
 
 use crate::clock::Clock;
 use crate::gap::Gap;
 use crate::offsets::{Stretches, UNKNOWN};
 use crate::shown::is_in_years;
-use crate::stretch::Stretch;
 use crate::zone::{OpenZone, Reading, lent_readings, source_readings, source_stretch};
 use civil_base::PlainDateTime;
 use tz_ever::laws;
+use tz_lookup::Stretch;
 use tz_tzif::TzifTz;
 
 /// Which instant of a local time is meant that clocks show more than once.

@@ -24,7 +24,6 @@ mod rings;
 mod room;
 mod shown;
 mod source;
-mod stretch;
 mod texts;
 mod tree;
 mod whole;

@@ -1,19 +1,18 @@
 //! The offsets of many seconds, by a cursor that remembers what was in force at the last one.
 ghost use Rattle.std.specs.Prelude.{◌≡◌, ◌<◌, ◌≤◌, false, IsTrue, length, pos, slice_index_or, unsigned_abs, ℤ};
 ghost use Rattle.civil_base.specs.{Instants.{nanos_of}, Ranges.{IsInYears, IsOffset}};
-ghost use Rattle.tz_ever.specs.{Ever.{ever_total}, EverShown.{ever_seen}};
-ghost use Rattle.tz_lookup.specs.CompactShown.{seen};
-ghost use Rattle.sefunjaro.specs.{Stretches.{ever_in_range, IsKnown, IsStretch}, Offsets.{offsets_of, AreInYears}, Rooms.{filled}};
+ghost use Rattle.tz_ever.specs.{Ever.{ever_total}, EverShown.{ever_seen}, EverShown.{ever_in_range}};
+ghost use Rattle.tz_lookup.specs.{CompactShown.{seen}, Stretches.{IsKnown, IsStretch}};
+ghost use Rattle.sefunjaro.specs.{Offsets.{offsets_of, AreInYears}, Rooms.{filled}};
 ghost use Rattle.tz_tzif.specs.{InForce.{told_total_at}, Zones.{value_of, says_of}};
 ghost use Rattle.tz_zone.specs.Sets.{schedule_of};
 ghost use Rattle.zone_spans.specs.Schedules.{total_at};
 
 use crate::room::put;
-use crate::stretch::{Stretch, ever_stretch, stretch_of};
 use crate::zone::offset_at;
 use civil_base::OffsetDateTime;
-use tz_ever::EverSet;
-use tz_lookup::CompactSet;
+use tz_ever::{EverSet, ever_stretch};
+use tz_lookup::{CompactSet, Stretch, stretch_of};
 use tz_tzif::TzifTz;
 
 /// A zone that tells what is in force at a second, and how long.

@@ -2,9 +2,9 @@
 ghost use Rattle.std.specs.{Prelude.{◌≡◌, ◌<◌, length, map, option_map}, List.{slice_get}};
 ghost use Rattle.civil_base.specs.{Instants.{nanos_of}, Ranges.{IsInYears}, DateTimes.{instant}};
 ghost use Rattle.tz_tzif.specs.{InForce.{told_total_at}, Zones.{value_of, says_of}};
-ghost use Rattle.sefunjaro.specs.{Answered.{AreReadings}, Gaps.{IsSkippedBy}, Stretches.{IsStretch}, Asked.{reading_of, IsNamed}, Rooms.{filled}, Zones.{total_in}};
+ghost use Rattle.tz_lookup.specs.{Stretches.{IsStretch}, CompactShown.{seen}, InForce.{all_in_force, shown_of}};
+ghost use Rattle.sefunjaro.specs.{Answered.{AreReadings}, Gaps.{IsSkippedBy}, Asked.{reading_of, IsNamed}, Rooms.{filled}, Zones.{total_in}};
 ghost use Rattle.tz_ever.specs.{Ever.{ever_total}, EverShown.{ever_seen}};
-ghost use Rattle.tz_lookup.specs.{CompactShown.{seen}, InForce.{all_in_force, shown_of}};
 ghost use Rattle.tz_zone.specs.Sets.{schedule_of};
 ghost use Rattle.zone_spans.specs.Schedules.{total_at};
 
@@ -17,13 +17,12 @@ use crate::gap::{Gap, find_gap, near_gap};
 use crate::offsets::{Stretches, offsets_at};
 use crate::room::{fill, put};
 use crate::shown::{clocks_at, texts_at};
-use crate::stretch::Stretch;
 use civil_base::{OffsetDateTime, PlainDateTime};
 use std::alloc::{AllocError, Global};
 use tz_ever::{EverSet, EverTable, EverTz, laws};
 use tz_lookup::{
     AllInstants, CompactFault, CompactSet, CompactTz, FixedTimespanSet, InstantsOf, Offset,
-    OffsetDateTimeExt, PrimitiveDateTimeExt, TimeZone,
+    OffsetDateTimeExt, PrimitiveDateTimeExt, Stretch, TimeZone,
 };
 use tz_tzif::TzifTz;
 use zone_spans::{EARLIEST_YEAR, MOST_YEARS};

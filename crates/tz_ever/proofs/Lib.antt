@@ -11,3 +11,4 @@ pub mod UnrolledShows
 pub mod ListedLemmas
 pub mod TableLemmas
 mod EverRows
+pub mod StretchLemmas

@@ -3,8 +3,7 @@ use Rattle.std.proofs.Common.{◌≡◌, ℕ, zero, suc, ◌*◌, ◌≤◌, ◌
 use Rattle.basics.specs.SignedLaws.{signed}
 use Rattle.civil_base.specs.{Instants.{instant_at}, RangeLaws.{offset_greatest, offset_least}, Ranges.{IsOffset}}
 use Rattle.zone_spans.specs.{Entries.{total}, Schedules.{total_at}, declared.span.FixedTimespan.{FixedTimespan}, Cycle.{instant_on}}
-use Rattle.tz_ever.specs.{InForce.{span_at}, InForceLaws.{total_at-is}, Ever.{GivesEver, IsRepeating, ever_span, ever_total}, Seam.{IsAtSeam, brought_back, cycles_past}, SeamLaws.{ArePast, back_by, cycles_past-are}}
-use Rattle.tz_ever.proofs.CutLemmas.{in_force-is}
+use Rattle.tz_ever.{specs.{InForce.{span_at}, InForceLaws.{total_at-is}, Ever.{GivesEver, IsRepeating, ever_span, ever_total}, Seam.{IsAtSeam, brought_back, cycles_past}, SeamLaws.{ArePast, back_by, cycles_past-are}}, proofs.CutLemmas.{in_force-is}}
 use Rattle.tz_zone.specs.{CompileLaws.{totals_same}, Compiles.{spans_of}, InForce.{GivesAt}, Sets.{schedule_of}, declared.set.FixedTimespanSet.{FixedTimespanSet}}
 
 -- ---- numbers of cycles a cycle apart at most

@@ -10,13 +10,13 @@ use std::sync::ledger::{Blank, Ledger};
 use tz_zone::{FixedTimespan, SpanTable, Steps, span_between};
 
 /// 2102-01-01 00:00:00 UTC, in seconds from 1970-01-01 00:00:00 UTC.
-const SEAM: i64 = 4_165_516_800;
+pub(crate) const SEAM: i64 = 4_165_516_800;
 
 /// 2502-01-01 00:00:00 UTC.
-const NEXT_SEAM: i64 = 16_788_297_600;
+pub(crate) const NEXT_SEAM: i64 = 16_788_297_600;
 
 /// The seconds of 400 years.
-const CYCLE: i64 = 12_622_780_800;
+pub(crate) const CYCLE: i64 = 12_622_780_800;
 
 /// The entries of an [`EverSet`] before 2502-01-01 00:00:00 UTC, and then those of the years 2102 to 2501 again for each of 20 later
 /// cycles of 400 years. It borrows the set, and keeps two numbers besides. Contracts see all these entries as one set (`unrolled`).

@@ -8,8 +8,10 @@ mod ever_table;
 mod ever_tz;
 pub mod laws;
 mod open;
+mod stretch;
 
 pub use ever_set::{EVER_YEARS, EverSet};
 pub use ever_table::EverTable;
 pub use ever_tz::{EverCursor, EverTz};
 pub use open::EverFault;
+pub use stretch::ever_stretch;

@@ -9,3 +9,4 @@ pub mod CompactRows
 pub mod DatabaseLaws
 pub mod KindLaws
 pub mod PartLaws
+pub mod StretchLemmas

@@ -31,4 +31,5 @@ pub mod Compact
 pub mod CompactShown
 pub mod CompactFaults
 pub mod CompactZones
+pub mod Stretches
 pub mod CompactLeft

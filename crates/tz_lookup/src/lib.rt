@@ -6,10 +6,12 @@
 mod compact_set;
 mod compact_tz;
 mod database;
+mod stretch;
 
 pub use compact_set::{CompactFault, CompactSet, LAST_YEAR_BEGIN, RULES_BEGIN, RULES_END};
 pub use compact_tz::{CompactInstants, CompactOffset, CompactTz};
 pub use database::{Database, DatabaseFault, DatabaseIter, names_in_order};
+pub use stretch::{Stretch, span_begin, span_end, stretch_of};
 pub use tz_zone::{
     AllInstants, Fixed, FixedOffset, FixedTimespan, FixedTimespanSet, InstantsLocal, InstantsOf,
     Offset, OffsetDateTimeExt, OffsetResult, PrimitiveDateTimeExt, Probe, SpanFault, SpanTable,

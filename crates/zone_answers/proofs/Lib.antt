@@ -12,3 +12,6 @@ pub mod MadeLemmas
 pub mod SummaryLemmas
 pub mod GenerateRows
 mod EndRows
+pub mod LastLemmas
+pub mod DayLemmas
+pub mod SameDayLemmas

@@ -9,7 +9,7 @@ use Rattle.zone_answers.specs.Requests.{is_number, is_space}
 abbrev all_pass : List ℕ → Bool
 all_pass ds = list_all (λ c. is_digit c 10) ds
 
-digits_from : (ds : List ℕ) → list_all (λ c. is_digit c 10) ds ≡ true → AllDigits 10 ds
+pub digits_from : (ds : List ℕ) → list_all (λ c. is_digit c 10) ds ≡ true → AllDigits 10 ds
 digits_from [] h = tt
 digits_from (d ∷ ds) h = let both = and_parts (is_digit d 10) _ h in (ltb-true _ 10 both.0, digits_from ds both.1)
 

@@ -10,6 +10,7 @@ pub mod Due
 pub mod Counts
 pub mod Words
 pub mod ReadBack
+pub mod SameDays
 pub mod Ends
 pub mod Responses
 pub mod Made

@@ -12,6 +12,7 @@ use crate::error::{AnswerError, ReadingError, Side};
 use crate::fault::write_reading_fault;
 use crate::opened::{OpenedZone, Zones};
 use crate::request::Spelled;
+use crate::same_day::SameDay;
 use crate::summary::summary_line;
 use std::alloc::Global;
 use std::marker::PhantomData;
@@ -118,8 +119,29 @@ fn answer<'r, Z: OpenedZone>(
     ensures accepted { OnOk result (request_refusal (found_in_table Z.read (table_of zones.old)) number line.now ≡ None) }
     ensures text { OnOk result (text.new.items ≡ answer_line (found_in_table Z.read (table_of zones.old)) line.now) }
     ensures read_back { OnOk result (All IsReadBack (shown_for (found_in_table Z.read (table_of zones.old)) line.now)) }
-    ensures same { OnOk result (table_of zones.new ≡ table_of zones.old) }
-    ensures opened { OnOk result (AreOpened Z.OpenedZone zones.new) }
+    ensures same { table_of zones.new ≡ table_of zones.old }
+    ensures opened { AreOpened Z.OpenedZone zones.new }
+    ensures err { IfErr result (TellsReading (request_refusal (found_in_table Z.read (table_of zones.old)) number line.now)) }
+{
+    if zones.show_again(line, text)? {
+        return Ok(());
+    }
+    answer_anew(zones, number, line, text)
+}
+
+/// The same by itself.
+fn answer_anew<'r, Z: OpenedZone>(
+    zones: &mut Zones<'_, 'r, Z>,
+    number: usize,
+    line: &'r [u8],
+    text: &mut Vec<u8>,
+) -> Result<(), ReadingError>
+    requires { AreOpened Z.OpenedZone zones.old }
+    ensures accepted { OnOk result (request_refusal (found_in_table Z.read (table_of zones.old)) number line.now ≡ None) }
+    ensures text { OnOk result (text.new.items ≡ answer_line (found_in_table Z.read (table_of zones.old)) line.now) }
+    ensures read_back { OnOk result (All IsReadBack (shown_for (found_in_table Z.read (table_of zones.old)) line.now)) }
+    ensures same { table_of zones.new ≡ table_of zones.old }
+    ensures opened { AreOpened Z.OpenedZone zones.new }
     ensures err { IfErr result (TellsReading (request_refusal (found_in_table Z.read (table_of zones.old)) number line.now)) }
 {
     let Some(asked) = text_of(line) else {
@@ -129,7 +151,13 @@ fn answer<'r, Z: OpenedZone>(
         return Err(ReadingError::Answer(AnswerError::Request(number)));
     };
     let place = zones.place_of(spelled.request.name(), number)?;
-    show_line(zones.zone_at(place), &spelled, number, text)
+    let zone = zones.zone_at(place);
+    let shown = show_line(zone, &spelled, number, text);
+    if shown.is_ok() {
+        let day = SameDay::after(zones.before, zone, asked, &spelled.request, text);
+        zones.keep(asked, day);
+    }
+    shown
 }
 
 /// Puts the line of the nth request at a zone into the text, in place of what is there.

@@ -8,6 +8,7 @@ mod made;
 mod opened;
 mod request;
 mod running;
+mod same_day;
 mod showing;
 mod summary;
 mod to_2099;

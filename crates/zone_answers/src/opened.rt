@@ -1,13 +1,15 @@
 //! Zones that requests name, each opened once and kept.
-ghost use Rattle.std.specs.Prelude.{◌≡◌, ◌++◌, ℤ, IfErr, IfOk, IsTrue, Ok};
+ghost use Rattle.std.specs.Prelude.{◌≡◌, ◌++◌, ℤ, false, IfErr, IfOk, IsTrue, Ok, OnErr};
 ghost use Rattle.civil_base.specs.Ranges.{IsOffset};
 ghost use Rattle.zone_table.specs.{BoundedTables.{IsBoundedTable}, Resolved.{resolved_in}};
-ghost use Rattle.zone_answers.specs.{Asked.{asked}, Due.{answer_text, shown_at}, Faults.{has_dates, zone_refusal}, Found.{Reading, found_in_table}, Requests.{IsSpelled}, Told.{TellsReading}};
+ghost use Rattle.zone_answers.specs.{Asked.{asked}, Due.{answer_text, shown_at}, Faults.{has_dates, zone_refusal}, Found.{Reading, found_in_table}, Requests.{IsSpelled}, SameDays.{IsAnswered, IsSameDay, IsThroughout}, Told.{TellsReading}};
 
 use crate::error::ReadingError;
 use crate::request::Request;
+use crate::same_day::SameDay;
 use basics::{Items, TextMap};
 use std::alloc::{AllocError, Global};
+use tz_lookup::Stretch;
 use zone_table::Table;
 
 /// A zone as it is kept from request to request.
@@ -28,19 +30,36 @@ pub trait OpenedZone: Drop {
         ensures ok { IfOk result (λ zone. found_in_table read table.now name.now ≡ Ok (total_at zone)) }
         ensures err { IfErr result (TellsReading (zone_refusal number (found_in_table read table.now name.now))) };
 
+    /// Seconds around one throughout which one total is in force; there may be none.
+    fn stretch_at(&self, _second: i64) -> Stretch
+        ensures { IsThroughout (total_at self.now) result }
+    {
+        Stretch {
+            from: 0,
+            until: 0,
+            offset: 0,
+        }
+    }
+
     /// Adds the line of a request of the zone to a text, without its LF. It adds none and answers no where the UTC date or the local
     /// date of an asked instant lies outside the years -9999 to 9999.
     ///
     /// # Errors
     ///
-    /// Want of memory alone.
+    /// Want of memory alone. The text is as before then.
     fn show(&self, request: &Request<'_>, text: &mut Vec<u8>) -> Result<bool, AllocError>
         ensures dates { IfOk result (λ has. has ≡ has_dates (total_at self.now) (asked request.now)) }
         ensures line { IfOk result (λ has. IsTrue has →
             text.new.items ≡ text.old.items ++ answer_text (shown_at (total_at self.now) (asked request.now))) }
+        ensures none { IfOk result (λ has. has ≡ false → text.new.items ≡ text.old.items) }
+        ensures err { OnErr result (text.new.items ≡ text.old.items) }
         ensures range { (t : ℤ) → IsOffset (total_at self.now t) };
 
     /// The same, where the text is at hand that names the request's local time.
+    ///
+    /// # Errors
+    ///
+    /// Want of memory alone. The text is as before then.
     fn show_spelled(
         &self,
         request: &Request<'_>,
@@ -51,6 +70,8 @@ pub trait OpenedZone: Drop {
         ensures dates { IfOk result (λ has. has ≡ has_dates (total_at self.now) (asked request.now)) }
         ensures line { IfOk result (λ has. IsTrue has →
             text.new.items ≡ text.old.items ++ answer_text (shown_at (total_at self.now) (asked request.now))) }
+        ensures none { IfOk result (λ has. has ≡ false → text.new.items ≡ text.old.items) }
+        ensures err { OnErr result (text.new.items ≡ text.old.items) }
         ensures range { (t : ℤ) → IsOffset (total_at self.now t) }
     {
         self.show(request, text)
@@ -66,6 +87,9 @@ pub struct Zones<'t, 'r, Z> {
     // where the zone of a name stands among them
     places: TextMap<usize>,
     last: Option<Last<'r>>,
+    // the line of the request that was answered last by itself, and those that it answers too
+    pub(crate) before: &'r [u8],
+    day: Option<SameDay<'r>>,
 }
 
 /// The name that was asked for last, and where its zone stands.
@@ -76,7 +100,7 @@ struct Last<'r> {
 }
 
 impl<'t, 'r, Z: OpenedZone> Zones<'t, 'r, Z> {
-    ghost use Rattle.std.specs.Prelude.{◌≡◌, ◌<◌, IfErr, IfOk, IfSome, OnOk, Some, length, slice_get};
+    ghost use Rattle.std.specs.Prelude.{◌≡◌, ◌<◌, IfErr, IfOk, IfSome, Some, length, slice_get, take};
     ghost use Rattle.zone_table.specs.BoundedTables.{IsBoundedTable};
     ghost use Rattle.zone_answers.specs.{Faults.{zone_refusal}, Found.{found_in_table}, Opened.{table_of, AreOpened, IsOpened, IsPlaced}, Told.{TellsReading}};
 
@@ -92,6 +116,8 @@ impl<'t, 'r, Z: OpenedZone> Zones<'t, 'r, Z> {
             opened: Items::new(alloc),
             places: TextMap::new(alloc),
             last: None,
+            before: &[],
+            day: None,
         }
     }
 
@@ -100,8 +126,8 @@ impl<'t, 'r, Z: OpenedZone> Zones<'t, 'r, Z> {
         requires { AreOpened Z.OpenedZone self.old }
         ensures placed { IfOk result (IsPlaced Z.OpenedZone (table_of self.old) self.new.opened name.now) }
         ensures err { IfErr result (TellsReading (zone_refusal number (found_in_table Z.read (table_of self.old) name.now))) }
-        ensures same { OnOk result (table_of self.new ≡ table_of self.old) }
-        ensures opened { OnOk result (AreOpened Z.OpenedZone self.new) }
+        ensures same { table_of self.new ≡ table_of self.old }
+        ensures opened { AreOpened Z.OpenedZone self.new }
     {
         if let Some(place) = self.last_place(name) {
             return Ok(place);
@@ -111,8 +137,8 @@ impl<'t, 'r, Z: OpenedZone> Zones<'t, 'r, Z> {
         Ok(place)
     }
 
-    /// Where the zone stands that the nth request names, whose text needn't live on. It is opened where it wasn't asked for yet; after an
-    /// error all zones stand where they did.
+    /// Where the zone stands that the nth request names, whose text needn't live on. It is opened where it wasn't asked for yet.
+    /// Whatever the answer, those that were opened stand where they did.
     ///
     /// # Errors
     ///
@@ -123,6 +149,7 @@ impl<'t, 'r, Z: OpenedZone> Zones<'t, 'r, Z> {
         ensures err { IfErr result (TellsReading (zone_refusal number (found_in_table Z.read (table_of self.old) name.now))) }
         ensures same { table_of self.new ≡ table_of self.old }
         ensures opened { AreOpened Z.OpenedZone self.new }
+        ensures kept { take (length self.old.opened) self.new.opened ≡ self.old.opened }
     {
         match self.places.get(name) {
             Some(place) => Ok(*place),
@@ -143,6 +170,29 @@ impl<'t, 'r, Z: OpenedZone> Zones<'t, 'r, Z> {
         }
     }
 
+    /// Puts the line of a request into the text, in place of what is there, if it asks what differs from the one before in the time of a
+    /// day alone.
+    pub(crate) fn show_again(&self, request: &[u8], text: &mut Vec<u8>) -> Result<bool, AllocError>
+        requires { AreOpened Z.OpenedZone self.now }
+        ensures { IfOk result (λ has. IsTrue has → IsAnswered (found_in_table Z.read (table_of self.now)) request.now text.new.items) }
+    {
+        match &self.day {
+            Some(day) => day.show(request, text),
+            None => Ok(false),
+        }
+    }
+
+    /// Keeps the text of a request that was answered by itself, and those of the same day.
+    pub(crate) fn keep(&mut self, text: &'r str, day: Option<SameDay<'r>>)
+        requires opened { AreOpened Z.OpenedZone self.old }
+        requires day { IfSome day (λ day. IsSameDay (found_in_table Z.read (table_of self.old)) day.front.now day.from day.until day.begins day.line) }
+        ensures same { table_of self.new ≡ table_of self.old }
+        ensures opened { AreOpened Z.OpenedZone self.new }
+    {
+        self.before = text.as_bytes();
+        self.day = day;
+    }
+
     /// Opens the zone that the nth request names, or finds it where another name opened it, and answers where it stands.
     fn open(&mut self, name: &str, number: usize) -> Result<usize, ReadingError>
         requires { AreOpened Z.OpenedZone self.old }
@@ -150,6 +200,7 @@ impl<'t, 'r, Z: OpenedZone> Zones<'t, 'r, Z> {
         ensures err { IfErr result (TellsReading (zone_refusal number (found_in_table Z.read (table_of self.old) name.now))) }
         ensures same { table_of self.new ≡ table_of self.old }
         ensures opened { AreOpened Z.OpenedZone self.new }
+        ensures kept { take (length self.old.opened) self.new.opened ≡ self.old.opened }
     {
         let stem = stem_of(self.table, name);
         let place = self.stem_place(stem, number)?;
@@ -164,6 +215,7 @@ impl<'t, 'r, Z: OpenedZone> Zones<'t, 'r, Z> {
         ensures err { IfErr result (TellsReading (zone_refusal number (found_in_table Z.read (table_of self.old) stem.now))) }
         ensures same { table_of self.new ≡ table_of self.old }
         ensures opened { AreOpened Z.OpenedZone self.new }
+        ensures kept { take (length self.old.opened) self.new.opened ≡ self.old.opened }
     {
         match self.places.get(stem) {
             Some(place) => Ok(*place),
@@ -178,6 +230,7 @@ impl<'t, 'r, Z: OpenedZone> Zones<'t, 'r, Z> {
         ensures err { IfErr result (TellsReading (zone_refusal number (found_in_table Z.read (table_of self.old) stem.now))) }
         ensures same { table_of self.new ≡ table_of self.old }
         ensures opened { AreOpened Z.OpenedZone self.new }
+        ensures kept { take (length self.old.opened) self.new.opened ≡ self.old.opened }
     {
         let zone = Z::open(self.alloc, self.table, stem, number)?;
         let place = self.opened.len();

@@ -1,7 +1,7 @@
 //! A request line.
 ghost use Rattle.std.specs.{Prelude.{◌≡◌, ◌<◌, ◌≤◌, ◌^◌, true, IfSome, length, slice_index, take, option_map, if◌then◌else◌, pos, neg_ℤ}, Str.Parse.{digits_value}, Char.{is_digit}, List.{before_first, after_first, list_all, position_or_len}};
 ghost use Rattle.civil_base.specs.{Layout.{local_text}, LocalTimes.{local_time_in}};
-ghost use Rattle.zone_answers.specs.Requests.{IsSpelled, request_of, request_with, nanoseconds_in, is_negative, is_number, is_space, name_of, without_minus};
+ghost use Rattle.zone_answers.specs.{SameDays.{AreLast}, Requests.{IsSpelled, request_of, request_with, nanoseconds_in, is_negative, is_number, is_space, name_of, without_minus}};
 
 use civil_base::{PlainDateTime, read_local};
 use memchr::memchr;
@@ -178,6 +178,18 @@ fn front_of(digits: &[u8], count: usize) -> u64
         front = 10 * front + u64::from(digits[i] - b'0');
     }
     front
+}
+
+/// The number that 14 digits write, if it is so many and digits alone.
+pub(crate) fn last_digits(text: &[u8]) -> Option<u64>
+    ensures some { IfSome result (λ number. AreLast text.now × (number ≡ digits_value 10 text.now)) }
+    ensures bound { IfSome result (λ number. number < 100000000000000) }
+{
+    if text.len() == 14 && is_number(text) {
+        Some(front_of(text, 14))
+    } else {
+        None
+    }
 }
 
 /// The number of that size, below zero or not.

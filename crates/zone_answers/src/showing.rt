@@ -11,6 +11,10 @@ use tz_lookup::{AllInstants, InstantsOf, OffsetDateTimeExt, TimeZone};
 
 /// Adds the line of a request of the zone to a text, without its LF. It adds none and answers no where the UTC date or the local
 /// date of an asked instant lies outside the years -9999 to 9999.
+///
+/// # Errors
+///
+/// Want of memory alone. The text is as before then.
 #[tactic(auto, unfolding(crate::specs::Due::shown_at, crate::specs::Faults::has_dates))]
 pub fn show<T: AllInstants>(
     zone: &T,
@@ -20,6 +24,8 @@ pub fn show<T: AllInstants>(
     ensures dates { IfOk result (λ has. has ≡ has_dates (T.total_at zone.now) (asked request.now)) }
     ensures line { IfOk result (λ has. IsTrue has →
         text.new.items ≡ text.old.items ++ answer_text (shown_at (T.total_at zone.now) (asked request.now))) }
+    ensures none { IfOk result (λ has. has ≡ false → text.new.items ≡ text.old.items) }
+    ensures err { OnErr result (text.new.items ≡ text.old.items) }
     ensures range { (t : ℤ) → IsOffset (T.total_at zone.now t) }
 {
     match request {
@@ -32,6 +38,10 @@ pub fn show<T: AllInstants>(
 }
 
 /// The same, where the text is at hand that names the request's local time.
+///
+/// # Errors
+///
+/// Want of memory alone. The text is as before then.
 #[tactic(auto, unfolding(crate::specs::Due::shown_at, crate::specs::Faults::has_dates))]
 pub fn show_spelled<T: AllInstants>(
     zone: &T,
@@ -43,12 +53,14 @@ pub fn show_spelled<T: AllInstants>(
     ensures dates { IfOk result (λ has. has ≡ has_dates (T.total_at zone.now) (asked request.now)) }
     ensures line { IfOk result (λ has. IsTrue has →
         text.new.items ≡ text.old.items ++ answer_text (shown_at (T.total_at zone.now) (asked request.now))) }
+    ensures none { IfOk result (λ has. has ≡ false → text.new.items ≡ text.old.items) }
+    ensures err { OnErr result (text.new.items ≡ text.old.items) }
     ensures range { (t : ℤ) → IsOffset (T.total_at zone.now t) }
 {
     match request {
         Request::At(_, nanoseconds) => Ok(add_instant(zone, nanoseconds, text)?),
         Request::Local(_, local) => {
-            add_each(zone, local, spelled, text)?;
+            add_all(zone, local, spelled, text)?;
             Ok(true)
         }
     }
@@ -108,10 +120,24 @@ pub fn add_instants<T: AllInstants>(
     ensures added { OnOk result (text.new.items ≡ text.old.items ++ answer_text (all_in_force (T.total_at zone.now) local.now)) }
     ensures err { OnErr result (text.new.items ≡ text.old.items) }
 {
-    let before = text.len();
     let mut spelled = [0; 30];
     let end = write_local(local, &mut spelled);
-    match add_each(zone, local, &spelled[..end], text) {
+    add_all(zone, local, &spelled[..end], text)
+}
+
+/// The same, where the text of the local time is at hand.
+fn add_all<T: AllInstants>(
+    zone: &T,
+    local: &PlainDateTime,
+    spelled: &[u8],
+    text: &mut Vec<u8>,
+) -> Result<(), AllocError>
+    requires { local_text local.now ≡ spelled.now }
+    ensures added { OnOk result (text.new.items ≡ text.old.items ++ answer_text (all_in_force (T.total_at zone.now) local.now)) }
+    ensures err { OnErr result (text.new.items ≡ text.old.items) }
+{
+    let before = text.len();
+    match add_each(zone, local, spelled, text) {
         Ok(()) => Ok(()),
         Err(refused) => {
             text.truncate(before);

@@ -8,7 +8,10 @@ use crate::opened::OpenedZone;
 use crate::request::Request;
 use crate::showing::{show, show_spelled};
 use std::alloc::{AllocError, Global};
-use tz_lookup::{CompactFault, CompactSet, CompactTz, FixedTimespanSet, ZoneFault, compile_zone};
+use tz_lookup::{
+    CompactFault, CompactSet, CompactTz, FixedTimespanSet, Stretch, ZoneFault, compile_zone,
+    stretch_of,
+};
 use zone_table::Table;
 
 /// The spans of the zone that a name finds in a table, under that name. They can be looked up. The table is bounded.
@@ -58,6 +61,10 @@ impl OpenedZone for CompactSet {
             Ok(set) => Ok(compact(alloc, &set)?),
             Err(fault) => Err(ReadingError::Answer(AnswerError::of_zone(number, fault))),
         }
+    }
+
+    fn stretch_at(&self, second: i64) -> Stretch {
+        stretch_of(self, second)
     }
 
     fn show(&self, request: &Request<'_>, text: &mut Vec<u8>) -> Result<bool, AllocError> {

@@ -1,6 +1,5 @@
 -- A zone whose last line has no lasting rule, or no rules at all, has the same entries over more years.
-use Rattle.std.proofs.{Common.{◌≡◌, List, [], ◌∷◌, None, ℤ, pos, refl, ℕ, zero, suc, Bool, ap, ◌∙◌, arith, ◌≤ℤ◌, ◌+◌, ◌≤◌, true, false, ◌++◌, length, map, filter, sym, append-nil, inl, inr, not, ◌&&◌, Option}, lemmas.Bool.{cases_Bool}}
-use Rattle.std.specs.List.{list_any}
+use Rattle.std.{proofs.{Common.{◌≡◌, List, [], ◌∷◌, None, ℤ, pos, refl, ℕ, zero, suc, Bool, ap, ◌∙◌, arith, ◌≤ℤ◌, ◌+◌, ◌≤◌, true, false, ◌++◌, length, map, filter, sym, append-nil, inl, inr, not, ◌&&◌, Option}, lemmas.Bool.{cases_Bool}}, specs.List.{list_any}}
 use Rattle.basics.specs.SignedLaws.{signed}
 use Rattle.zone_table.specs.declared.rule.RuleInfo.{RuleInfo}
 use Rattle.zone_spans.specs.{Entries.{entry_of, start_entry, entries_from_over, entries_of_over}, Firings.{fired, year_firings, Fired}, Lines.{Line, is_ruled}, Listing.{listed_firings}, Years.{earliest_year}, GoesOn.{is_still}}

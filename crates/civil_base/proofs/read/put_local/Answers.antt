@@ -16,10 +16,10 @@ returns-clause-text c =
     let f : FitsSigned w32 date.result.0 = search rules in
     local_text-written c.args.local (take c.put_sign-after_sign.result c.put_sign-after_sign.new.into)
     (take c.put-after_date.result c.put-after_date.new.into) (take c.put-after_second.result c.put-after_second.new.into)
-    (take c.put.result c.put.new.into) c.date_bytes.result c.spaced_time.result c.nanosecond_bytes.result
+    (take c.put.result c.put.new.into) c.date_bytes.result c.spaced_second.result c.nanosecond_bytes.result
     (to_z w32 (of_z w32 date.result.0)) c.unsigned_abs.result c.from.result date.result.2 c.time-time.result c.nanosecond.result
     c.put_sign-after_sign.ensures.text c.put-after_date.ensures.text c.put-after_second.ensures.text c.put.ensures.text
-    c.date_bytes.ensures c.spaced_time.ensures c.nanosecond_bytes.ensures c.unsigned_abs.ensures.value
+    c.date_bytes.ensures c.spaced_second.ensures c.nanosecond_bytes.ensures c.unsigned_abs.ensures.value
     (to_z-of_z f ∙ date.ensures.year ∙ ap year_of c.date.ensures.value) (c.from.ensures.0 ∙ date.ensures.month
     ∙ ap month_of c.date.ensures.value) (date.ensures.day
     ∙ ap day_of c.date.ensures.value) c.nanosecond.ensures.value c.time-time.ensures

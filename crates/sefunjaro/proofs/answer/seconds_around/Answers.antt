@@ -9,25 +9,25 @@ returns g c =
     let set = g.S.SpanTable.seen c.args.set.now in
     let second = c.args.second in
     let same = to_z-of_z w64 second c.ranges.second in
-    let from_fits : SFits w64 c.begin_of-from.result = search rules in
-    let end_fits : SFits w64 c.end_of.result = search rules in
+    let from_fits : SFits w64 c.span_begin-from.result = search rules in
+    let end_fits : SFits w64 c.span_end.result = search rules in
     let until_fits : SFits w64 c.to_end-until.result = search rules in
     let from = to_z-of_z w64 _ from_fits in
     let end = to_z-of_z w64 _ end_fits in
     let until = to_z-of_z w64 _ until_fits in
     let cut = subst (IsCut (shifts_of set) c.span_in_force_at-span.result) same c.span_in_force_at-span.ensures in
-    let lasts = c.end_of.ensures.lasts (omega (arith, ints, same, c.requires.early)) in
+    let lasts = c.span_end.ensures.lasts (omega (arith, ints, same, c.requires.early)) in
     let ends = subst (λ t. c.to_end-until.result ≤ℤ t) end c.to_end-until.ensures.second in
     record {
-      begun = omega (arith, ints, from, same, c.begin_of-from.ensures.begun);
+      begun = omega (arith, ints, from, same, c.span_begin-from.ensures.begun);
       lasts = subst (λ t. second <ℤ t) (sym until) (c.to_end-until.ensures.greatest second (omega (arith, ints, end, same, lasts)) c.requires.early);
       early = subst (λ t. t ≤ℤ end_second) (sym until) c.to_end-until.ensures.end;
       throughout = λ u low high. record {
         within = cut.within;
-        before = c.begin_of-from.ensures.before u (subst (λ t. t ≤ℤ u) from low);
-        after = c.end_of.ensures.after u (lt_le u _ _ (subst (λ t. u <ℤ t) until high) ends);
+        before = c.span_begin-from.ensures.before u (subst (λ t. t ≤ℤ u) from low);
+        after = c.span_end.ensures.after u (lt_le u _ _ (subst (λ t. u <ℤ t) until high) ends);
       };
-      from = from ∙ c.begin_of-from.ensures.is;
-      until = λ l. until ∙ c.to_end-until.ensures.is ∙ ap up_to_end (end ∙ c.end_of.ensures.next l);
-      at_end = λ l. until ∙ c.to_end-until.ensures.is ∙ ap up_to_end (end ∙ c.end_of.ensures.last l);
+      from = from ∙ c.span_begin-from.ensures.is;
+      until = λ l. until ∙ c.to_end-until.ensures.is ∙ ap up_to_end (end ∙ c.span_end.ensures.next l);
+      at_end = λ l. until ∙ c.to_end-until.ensures.is ∙ ap up_to_end (end ∙ c.span_end.ensures.last l);
     }

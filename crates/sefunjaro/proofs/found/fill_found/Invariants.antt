@@ -1,5 +1,6 @@
 use Rattle.std.proofs.Common.{◌≡◌, ◌<◌, ◌≤◌, ℕ, get_or}
-use Rattle.sefunjaro.specs.{Clocks.{clock_shown}, Found.{IsFound}, Stretches.{IsKnown}, declared.clock.Clock.{Clock}, declared.found.Found.{Found}}
+use Rattle.tz_lookup.specs.Stretches.{IsKnown}
+use Rattle.sefunjaro.specs.{Clocks.{clock_shown}, Found.{IsFound}, declared.clock.Clock.{Clock}, declared.found.Found.{Found}}
 use Rattle.sefunjaro.proofs.found.fill_found.Given as goal
 
 -- the items so far are what is found, behind them is what was there, and what is remembered is so

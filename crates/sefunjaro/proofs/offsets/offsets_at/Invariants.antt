@@ -1,6 +1,7 @@
 use Rattle.std.proofs.Common.{◌≡◌, map, take}
 use Rattle.civil_base.specs.Instants.{nanos_of}
-use Rattle.sefunjaro.specs.{Rooms.{filled}, Stretches.{IsKnown}}
+use Rattle.tz_lookup.specs.Stretches.{IsKnown}
+use Rattle.sefunjaro.specs.Rooms.{filled}
 use Rattle.sefunjaro.proofs.offsets.offsets_at.Given as goal
 
 -- those of the seconds so far stand in the room, as far as they fit, and what is remembered is so

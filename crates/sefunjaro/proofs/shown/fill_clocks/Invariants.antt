@@ -1,5 +1,6 @@
 use Rattle.std.proofs.Common.{◌≡◌, take}
-use Rattle.sefunjaro.specs.{Rooms.{filled}, Shown.{clocks_of}, Stretches.{IsKnown}}
+use Rattle.tz_lookup.specs.Stretches.{IsKnown}
+use Rattle.sefunjaro.specs.{Rooms.{filled}, Shown.{clocks_of}}
 use Rattle.sefunjaro.proofs.shown.fill_clocks.Given as goal
 
 -- those of the seconds so far stand in the room, as far as they fit, and what is remembered is so

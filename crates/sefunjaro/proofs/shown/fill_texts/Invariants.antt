@@ -1,6 +1,7 @@
 use Rattle.std.proofs.Common.{◌≡◌, ◌≤◌, ◌*◌, ◌∷◌, length, take}
 use Rattle.civil_base.specs.Layout.{offset_text}
-use Rattle.sefunjaro.specs.{Rooms.{filled}, Shown.{texts_of}, Stretches.{IsKnown}}
+use Rattle.tz_lookup.specs.Stretches.{IsKnown}
+use Rattle.sefunjaro.specs.{Rooms.{filled}, Shown.{texts_of}}
 use Rattle.sefunjaro.proofs.shown.fill_texts.Given as goal
 
 -- the texts of the seconds so far stand in the room, as far as they fit, and what is remembered is so

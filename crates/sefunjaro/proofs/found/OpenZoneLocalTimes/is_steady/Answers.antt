@@ -1,9 +1,9 @@
 use Rattle.std.proofs.Common.{◌≡◌, ℤ, Option, Some, None}
 use Rattle.civil_base.specs.Instants.{nanos_of, seconds_of}
-use Rattle.tz_ever.specs.{Ever.{ever_total}, EverShown.{ever_seen}, declared.ever_set.EverSet.{EverSet}}
+use Rattle.tz_ever.specs.{Ever.{ever_total}, EverShown.{ever_seen}, declared.ever_set.EverSet.{EverSet}, EverShown.{ever_in_range}}
 use Rattle.tz_lookup.specs.{CompactShown.{seen}, declared.compact_set.CompactSet.{CompactSet}}
 use Rattle.tz_zone.specs.declared.set.FixedTimespanSet.{FixedTimespanSet}
-use Rattle.sefunjaro.{specs.GapPlaces.{HoldsSeconds}, specs.Steadiness.{IsSteady}, specs.Stretches.{ever_in_range}, specs.Zones.{total_with}, proofs.GapLemmas.{schedule_holds}}
+use Rattle.sefunjaro.{specs.GapPlaces.{HoldsSeconds}, specs.Steadiness.{IsSteady}, specs.Zones.{total_with}, proofs.GapLemmas.{schedule_holds}}
 use Rattle.sefunjaro.proofs.found.OpenZoneLocalTimes.is_steady.Goals as goal
 
 steady_with : ((set : FixedTimespanSet) (t : ℤ) → ever_total set t ≡ ever_total set (nanos_of (seconds_of t))) → (set : CompactSet) (ever : Option EverSet)

@@ -1,8 +1,7 @@
 use Rattle.std.{proofs.Common.{◌≡◌, ◌≤ℤ◌, ◌<ℤ◌, ℤ, true, sym, subst}, specs.Prelude.{IfSome, Option, Some, None}}
 use Rattle.civil_base.specs.{DateTimes.{instant}, Instants.{seconds_of}}
 use Rattle.tz_ever.specs.{EverShown.{ever_seen}, Unrolled.{unrolled}, declared.ever_set.EverSet.{EverSet}}
-use Rattle.sefunjaro.specs.{Answers.{IsAnswered, IsBetween}, AnswerSteps.{IsToldBySpan}, Changes.{saving_at}, Zones.{given_with, set_in, spans_with, total_with}}
-use Rattle.sefunjaro.proofs.{AnswerLemmas.{answered, saved, shows_itself, shows_unrolled}, UntilLemmas.{held}}
+use Rattle.sefunjaro.{specs.{Answers.{IsAnswered, IsBetween}, AnswerSteps.{IsToldBySpan}, Changes.{saving_at}, Zones.{given_with, set_in, spans_with, total_with}}, proofs.{AnswerLemmas.{answered, saved, shows_itself, shows_unrolled}, UntilLemmas.{held}}}
 use Rattle.sefunjaro.proofs.zone.OpenZone.answer_at.Goals as goal
 
 pub returns-in-Some-clause-answer : goal.returns-in-Some-clause-answer

@@ -23,4 +23,5 @@ returns-clause-opened g c =
       bounded = kept.bounded;
       each = rw c.in_ok-insert.ensures.ok (each_kept kind after.table.now after.opened after.places c.args.name.now _ kept.each placed_now);
       last = kept.last;
+      day = kept.day;
     }

@@ -19,5 +19,6 @@ returns-clause-opened g c =
       each = rw (c.in_ok-insert.ensures.ok, c.in_ok-push.ensures.ok, c.len-place.ensures)
           (each_kept kind table _ c.args.self.now.places c.args.stem.now _ (each_stays kind table opened _ c.args.self.now.places c.requires.each)
           (stands_last (IsOpened kind table c.args.stem.now) opened c.in_ok-zone.zone c.in_ok-zone.ensures.ok));
+      day = c.requires.day;
       last = rw c.in_ok-push.ensures.ok (last_stays kind table opened _ c.args.self.now.last c.requires.last);
     }

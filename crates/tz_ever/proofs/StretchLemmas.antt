@@ -1,19 +1,11 @@
--- The total throughout a span, and throughout seconds of one cycle.
+-- The total of a zone that goes on for ever throughout seconds of one cycle.
 use Rattle.std.proofs.Common.{◌≡◌, ℕ, ◌*◌, ℤ, pos, ◌+ℤ◌, ◌-ℤ◌, ◌≤ℤ◌, ◌<ℤ◌, sym, ap, ◌∙◌, arith}
 use Rattle.basics.specs.{ComparisonLaws.{lt_pass}, SignedLaws.{signed}}
 use Rattle.civil_base.specs.Instants.{nanos_of}
-use Rattle.zone_spans.specs.Schedules.{Schedule, total_at}
-use Rattle.tz_zone.specs.{SecondLaws.{IsSecond, one_second, second_is, total_is}, Sets.{schedule_of}, SpanLaws.{total_from_cut}, Spans.{IsCut, total_from, total_of}, declared.set.FixedTimespanSet.{FixedTimespanSet}}
+use Rattle.zone_spans.specs.Schedules.{total_at}
+use Rattle.tz_zone.specs.{Sets.{schedule_of}, declared.set.FixedTimespanSet.{FixedTimespanSet}}
+use Rattle.tz_lookup.specs.{Stretches.{IsStretch}, declared.stretch.Stretch.{Stretch}}
 use Rattle.tz_ever.specs.{Ever.{ever_total}, Seam.{next_seam}, SeamLaws.{back_by, back_is}, Unrolled.{next_seam_second, seam_second}}
-use Rattle.sefunjaro.specs.{Stretches.{IsStretch}, declared.stretch.Stretch.{Stretch}}
-
-begins_at : (s : ℤ) → IsSecond (nanos_of s) s
-begins_at s = record { low = omega (arith, signed); high = omega (arith, signed) }
-
-pub at_second : (zone : Schedule) (k : ℕ) (s : ℤ) → IsCut zone.shifts k s → total_at zone (nanos_of s) ≡ total_of zone.first zone.shifts k
-at_second zone k s cut =
-    total_is zone (nanos_of s) ∙ ap (total_from zone.first zone.shifts) (one_second _ _ _ (second_is (nanos_of s)) (begins_at s))
-    ∙ total_from_cut zone.first zone.shifts k s cut
 
 pub before_seam : (set : FixedTimespanSet) (u : ℤ) → u <ℤ next_seam_second → ever_total set (nanos_of u) ≡ total_at (schedule_of set) (nanos_of u)
 unfolding ever_total

@@ -1,8 +1,8 @@
 -- The total offset at a second, and how long it is in force.
-use Rattle.std.specs.Prelude.{◌≡◌, ℤ, ◌≤ℤ◌, ◌<ℤ◌}
-use Rattle.civil_base.specs.{Instants.{nanos_of}, Ranges.{IsOffset}}
-use Rattle.tz_ever.specs.{Ever.{ever_total}, EverShown.{ever_seen}, Seam.{brought_back}, declared.ever_set.EverSet.{EverSet}}
-use Rattle.sefunjaro.specs.declared.stretch.Stretch.{Stretch}
+use Rattle.std.specs.Prelude.{◌≡◌, ℕ, zero, suc, List, ℤ, negsuc, ◌≤ℤ◌, ◌<ℤ◌}
+use Rattle.civil_base.specs.Instants.{nanos_of}
+use Rattle.tz_zone.specs.Spans.{Shift, shift_at}
+use Rattle.tz_lookup.specs.declared.stretch.Stretch.{Stretch}
 
 -- its total is that of all its seconds, of which there may be none, where each instant has a total
 abbrev pub IsKnown : (ℤ → ℤ) → Stretch → Type 0
@@ -14,7 +14,10 @@ pub record IsStretch (total : ℤ → ℤ) (second : ℤ) (stretch : Stretch) : 
   pub here : total (nanos_of second) ≡ stretch.offset
   pub throughout : IsKnown total stretch
 
--- each total of a zone that goes on for ever is an offset
-pub ever_in_range : (ever : EverSet) (t : ℤ) → IsOffset (ever_total (ever_seen ever) t)
-unfolding ever_total
-ever_in_range ever t = ever.set.range (brought_back t)
+abbrev pub least_second : ℤ
+least_second = negsuc 9223372036854775807
+
+-- the second from which a span is in force, by its number: the first from the least of all on
+abbrev pub begin_second : ℤ → List Shift → ℕ → ℤ
+begin_second least shifts zero = least
+begin_second least shifts (suc k) = (shift_at shifts k).0

@@ -1,11 +1,10 @@
 use Rattle.std.proofs.{Common.{◌≡◌, ◌∙◌, ◌*◌, pos, ◌+ℤ◌, ◌-ℤ◌, ◌≤ℤ◌, SFits, rules, w32, w64, sym, ap, subst, arith}, lemmas.Int.{to_z-of_z}}
 use Rattle.basics.specs.SignedLaws.{signed}
 use Rattle.zone_spans.specs.Schedules.{total_at}
-use Rattle.tz_ever.specs.{EverShown.{ever_seen}, Unrolled.{seam_second}}
-use Rattle.tz_lookup.specs.CompactShown.{seen}
+use Rattle.tz_ever.{specs.{EverShown.{ever_seen}, Unrolled.{seam_second}}, proofs.StretchLemmas.{later_is}}
+use Rattle.tz_ever.proofs.stretch.later_stretch.Goals as goal
+use Rattle.tz_lookup.specs.{CompactShown.{seen}, Stretches.{IsStretch}}
 use Rattle.tz_zone.specs.{Sets.{schedule_of}, declared.set.FixedTimespanSet.{FixedTimespanSet}}
-use Rattle.sefunjaro.{specs.Stretches.{IsStretch}, proofs.StretchLemmas.{later_is}}
-use Rattle.sefunjaro.proofs.stretch.later_stretch.Goals as goal
 
 pub returns : goal.returns
 returns c =

@@ -1,10 +1,9 @@
 use Rattle.std.proofs.{Common.{◌≤ℤ◌, SFits, rules, w32, w64, subst}, lemmas.Int.{to_z-of_z}}
 use Rattle.zone_spans.specs.Schedules.{total_at}
-use Rattle.tz_ever.specs.EverShown.{ever_seen}
-use Rattle.tz_lookup.specs.CompactShown.{seen}
+use Rattle.tz_ever.{specs.EverShown.{ever_seen}, proofs.StretchLemmas.{first_is}}
+use Rattle.tz_ever.proofs.stretch.first_stretch.Goals as goal
+use Rattle.tz_lookup.specs.{CompactShown.{seen}, Stretches.{IsStretch}}
 use Rattle.tz_zone.specs.{Sets.{schedule_of}, declared.set.FixedTimespanSet.{FixedTimespanSet}}
-use Rattle.sefunjaro.{specs.Stretches.{IsStretch}, proofs.StretchLemmas.{first_is}}
-use Rattle.sefunjaro.proofs.stretch.first_stretch.Goals as goal
 
 pub returns : goal.returns
 returns c =

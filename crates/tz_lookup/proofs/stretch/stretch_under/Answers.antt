@@ -1,27 +1,26 @@
 use Rattle.std.proofs.{Common.{◌≤ℤ◌, ◌<ℤ◌, SFits, rules, sym, ◌∙◌, subst, w32, w64}, lemmas.Int.{to_z-of_z}}
 use Rattle.tz_zone.specs.{Sets.{schedule_of, shifts_of}, Spans.{IsCut}}
-use Rattle.tz_lookup.specs.CompactShown.{seen}
-use Rattle.sefunjaro.proofs.StretchLemmas.{at_second}
-use Rattle.sefunjaro.proofs.stretch.stretch_under.Goals as goal
+use Rattle.tz_lookup.{specs.CompactShown.{seen}, proofs.StretchLemmas.{at_second}}
+use Rattle.tz_lookup.proofs.stretch.stretch_under.Goals as goal
 
 pub returns : goal.returns
 returns g c =
     let zone = schedule_of (seen c.args.set.now) in
     let span = c.span_of-span.result in
     let same = to_z-of_z w64 c.args.second c.ranges.second in
-    let from_fits : SFits w64 c.begin_of-from.result = search rules in
-    let until_fits : SFits w64 c.end_of-until.result = search rules in
+    let from_fits : SFits w64 c.span_begin-from.result = search rules in
+    let until_fits : SFits w64 c.span_end-until.result = search rules in
     let offset_fits : SFits w32 c.whole_seconds-offset.result = search rules in
     let from = to_z-of_z w64 _ from_fits in
     let until = to_z-of_z w64 _ until_fits in
     let cut = subst (IsCut (shifts_of (seen c.args.set.now)) span) same c.span_of-span.ensures in
     let total = sym (to_z-of_z w32 _ offset_fits ∙ c.whole_seconds-offset.ensures.value ∙ c.offset_of.ensures) in
     record {
-      begun = subst (λ t. t ≤ℤ c.args.second) (sym from) (subst (λ t. c.begin_of-from.result ≤ℤ t) same c.begin_of-from.ensures.begun);
+      begun = subst (λ t. t ≤ℤ c.args.second) (sym from) (subst (λ t. c.span_begin-from.result ≤ℤ t) same c.span_begin-from.ensures.begun);
       here = at_second zone span c.args.second cut ∙ total;
       throughout = λ u low high. at_second zone span u (record {
         within = cut.within;
-        before = c.begin_of-from.ensures.before u (subst (λ t. t ≤ℤ u) from low);
-        after = c.end_of-until.ensures.after u (subst (λ t. u <ℤ t) until high);
+        before = c.span_begin-from.ensures.before u (subst (λ t. t ≤ℤ u) from low);
+        after = c.span_end-until.ensures.after u (subst (λ t. u <ℤ t) until high);
       }) ∙ total;
     }

@@ -1,6 +1,6 @@
 use Rattle.std.proofs.{Common.{◌-◌, ◌≤ℤ◌, w64, SFits, rules, sym, ◌∙◌, subst, arith}, lemmas.Int.{to_z-of_z}}
 use Rattle.basics.specs.ComparisonLaws.{le_le}
-use Rattle.sefunjaro.proofs.stretch.begin_of.Goals as goal
+use Rattle.tz_lookup.proofs.stretch.span_begin.Goals as goal
 
 pub returns-else-span-eq0-clause-begun : goal.returns-else-span-eq0-clause-begun
 returns-else-span-eq0-clause-begun g c =

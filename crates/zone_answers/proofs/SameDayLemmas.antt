@@ -1,0 +1,122 @@
+-- What answers requests for instants of one local day at one offset.
+use Rattle.std.proofs.{Common.{◌≡◌, ℕ, ◌+◌, ◌-◌, ◌*◌, ◌^◌, ◌%◌, ◌<◌, ◌≤◌, true, cond, List, [], ◌∷◌, ◌++◌, length, Some, None, Result, Ok, Err, ℤ, pos, ◌+ℤ◌, ◌-ℤ◌, ◌*ℤ◌, ◌≤ℤ◌, ◌<ℤ◌, sym, ap, ◌∙◌, subst, arith}, lemmas.Bool.{and_from, true≢false}, lemmas.Int.{ints}, lemmas.List.{append-nil}, lemmas.Str.{IsUtf8-append, IsUtf8-from_ascii, is_utf8-from_IsUtf8}, lemmas.Fmt.{IsAscii-from_digits}}
+use Rattle.std.specs.{Char.{is_digit}, Result.{is_ok, OnOk}, Str.{IsUtf8}, Str.Parse.{digits_value}}
+use Rattle.basics.specs.SignedLaws.{signed}
+use Rattle.civil_base.specs.{Clock.{nanos_per_day}, Instants.{local_at, nanos_of, seconds_of}, Layout.{time_part, zoned_text}, RangeLaws.{offset_least, offset_greatest, years_between}, Ranges.{IsOffset}}
+use Rattle.zone_spans.specs.Schedules.{Schedule, total_at}
+use Rattle.tz_zone.specs.{SecondLaws.{IsSecond, one_second, second_is, total_is}, Spans.{total_from}}
+use Rattle.tz_lookup.specs.{Stretches.{IsKnown}, declared.stretch.Stretch.{Stretch}}
+use Rattle.zone_answers.specs.{AskedLaws.{Asks}, Due.{answer_line, answer_text, shown_at}, Faults.{has_dates, range}, Found.{Found}, Requests.{at, request_of}, SameDays.{AreLast, IsAnswered, IsAround, IsSameDay, IsThroughout, at_time}}
+use Rattle.zone_answers.proofs.{DayLemmas.{IsSameDate, other_time, same_date}, LastLemmas.{IsOther, all_digits, other_request}, ReadBackLemmas.{line_back}, RequestLemmas.{digits_from}, RefusalLemmas.{dates_are, line_is}}
+
+-- a request for an instant of a zone that was found, its line, and what is in force there
+pub record IsAsked (names : List ℕ → Found) (total : ℤ → ℤ) (front end name : List ℕ) (n : ℤ) (shown : List ℕ) : Type 0 where
+  pub asks : Asks request_of (front ++ end) (at name n)
+  pub text : IsUtf8 front
+  pub last : AreLast end
+  pub found : names name ≡ Ok total
+  pub small : (t : ℤ) → IsOffset (total t)
+  pub late : pos (10 ^ 14) ≤ℤ n
+  pub early : n ≤ℤ pos 7000000000000000000
+  pub line : shown ≡ zoned_text n (total n)
+  pub long : length shown ≡ 39
+
+ascii : (ds : List ℕ) → all_digits ds ≡ true → IsUtf8 ds
+ascii ds is = IsUtf8-from_ascii ds (IsAscii-from_digits ds (digits_from ds is))
+
+answered : (names : List ℕ → Found) (total : ℤ → ℤ) (front last name : List ℕ) (n : ℤ) (line : List ℕ) (next : List ℕ) (m : ℤ) (nanos : ℕ)
+    → IsAsked names total front last name n line → AreLast next → request_of (front ++ next) ≡ Some (at name m) → total m ≡ total n
+    → n ≤ℤ (m +ℤ pos 100000000000000) → m ≤ℤ (n +ℤ pos 100000000000000)
+    → IsSameDate (local_at n (total n)) (local_at m (total n)) nanos → IsAnswered names (front ++ next) (at_time line nanos)
+unfolding has_dates shown_at
+answered names total front last name n line next m nanos it digits reads same low high date = record {
+  accepted = λ k. dates_are names k (front ++ next) (at name m) total asks it.found ∙ ap (λ b. cond b None (Some (range k))) dates;
+  line = line_is names (front ++ next) (at name m) total asks it.found ∙ append-nil (zoned_text m (total m))
+      ∙ ap (zoned_text m) same ∙ other_time line n m (total n) nanos it.line it.long date;
+  back = line_back names (front ++ next) (at name m) total asks it.found it.small dates;
+}
+  where
+    asks : Asks request_of (front ++ next) (at name m)
+    asks = record { text = is_utf8-from_IsUtf8 _ (IsUtf8-append front next it.text (ascii next digits.digits)); reads = reads }
+
+    dates : has_dates total (at name m) ≡ true
+    dates =
+        and_from _ _ (years_between m (omega (arith, signed, it.late, low)) (omega (arith, signed, it.early, high)))
+        (years_between (local_at m (total m)) (omega (arith, signed, it.late, low, offset_least (total m) (it.small m)))
+        (omega (arith, signed, it.early, high, offset_greatest (total m) (it.small m))))
+
+-- The requests of a day around one of them: from the later of two instants on, up to the earlier of two.
+pub same_day : (names : List ℕ → Found) (total : ℤ → ℤ) (front last name : List ℕ) (now number : ℕ) (line : List ℕ) (stretch : Stretch)
+    (from until begins base first past : ℕ) → IsAsked names total front last name (pos now) line → number ≡ digits_value 10 last
+    → base + number ≡ now → IsThroughout total stretch → IsAround stretch now from until begins → from ≤ first → base ≤ first → now < past
+    → past ≤ until → past ≤ base + 100000000000000 → IsSameDay names front (first - base) (past - base) (begins + (first - from)) line
+same_day names total front last name now number line stretch from until begins base first past it value based throughout around later after lasts sooner near =
+    record {
+      ends = omega (arith, around.day, around.begun, around.lasts, later, after, sooner, lasts, based);
+      each = each;
+    }
+  where
+    here : total (pos now) ≡ stretch.offset
+    here = throughout (pos now) (omega (arith, signed, around.first, around.begun)) (omega (arith, signed, around.past, around.lasts))
+
+    begun : begins + now ≡ time_part (local_at (pos now) (total (pos now))) + from
+    begun = around.begins ∙ ap (λ o. time_part (local_at (pos now) o) + from) (sym here)
+
+    each : (next : List ℕ) → AreLast next → first - base ≤ digits_value 10 next → digits_value 10 next < past - base
+        → IsAnswered names (front ++ next) (at_time line (begins + (first - from) + (digits_value 10 next - (first - base))))
+    each next digits low high =
+        let v = digits_value 10 next in
+        let other : IsOther front last next name (pos now) = other_request front last next name (pos now) it.asks.reads it.late it.last.count digits.count digits.digits in
+        let m : ℤ = other.number in
+        let is : m ≡ pos (base + v) = omega (arith, signed, other.sum, value, based) in
+        let there : total m ≡ stretch.offset =
+        throughout m (omega (arith, signed, is, around.first, later, after, low)) (omega (arith, signed, is, around.past, sooner, high)) in
+        answered names total front last name (pos now) line next m _ it digits other.reads (there ∙ sym here)
+        (omega (arith, signed, is, near, lasts)) (omega (arith, signed, is, near, high, based))
+        (same_date (local_at (pos now) (total (pos now))) (local_at m (total (pos now))) _
+        (omega (arith, signed, is, begun, later, after, low)) (omega (arith, around.day, sooner, high, low, later, after)))
+
+begun : (a t s : ℤ) → IsSecond t s → nanos_of a ≤ℤ t → a ≤ℤ s
+begun a t s is l = omega (arith, ints, is.low, is.high, l)
+
+lasts : (a t s : ℤ) → IsSecond t s → t <ℤ nanos_of a → s <ℤ a
+lasts a t s is l = omega (arith, ints, is.low, is.high, l)
+
+at_second : (s : ℤ) → IsSecond (nanos_of s) s
+at_second s = record { low = omega (arith, signed); high = omega (arith, signed) }
+
+-- the total of a stretch's seconds is that of all instants in them
+pub throughout : (zone : Schedule) (stretch : Stretch) → IsKnown (total_at zone) stretch → IsThroughout (total_at zone) stretch
+throughout zone stretch known t low high =
+    let second = seconds_of t in
+    let is = second_is t in
+    total_is zone t ∙ ap (total_from zone.first zone.shifts) (one_second (nanos_of second) second (seconds_of (nanos_of second)) (at_second second) (second_is (nanos_of second)))
+    ∙ sym (total_is zone (nanos_of second)) ∙ known second (begun stretch.from t second is low) (lasts stretch.until t second is high)
+
+-- the time of day of a local time from 1970 on
+pub time_of : (x : ℤ) (n : ℕ) → pos n ≡ x → time_part x ≡ n % 86400000000000
+unfolding time_part
+time_of x n is = omega (arith, signed, is)
+
+-- what is known of a request for an instant, its line and its zone
+pub asked_is : (names : List ℕ → Found) (total : ℤ → ℤ) (front end name text shown line : List ℕ) (n : ℤ) (now : ℕ) → n ≡ pos now
+    → front ++ end ≡ text → Asks request_of text (at name n) → IsUtf8 front → AreLast end → names name ≡ Ok total → ((t : ℤ) → IsOffset (total t))
+    → 10 ^ 14 ≤ now → now ≤ 7000000000000000000 → shown ≡ answer_text (shown_at total (at name n)) → line ≡ shown → length shown ≡ 39
+    → IsAsked names total front end name (pos now) line
+unfolding shown_at
+asked_is names total front end name text shown line n now is cut asks utf8 digits found small late early told same long = record {
+  asks = subst (λ t. Asks request_of t (at name (pos now))) (sym cut) (subst (λ m. Asks request_of text (at name m)) is asks);
+  text = utf8;
+  last = digits;
+  found = found;
+  small = small;
+  late = omega (arith, ints, late);
+  early = omega (arith, ints, early);
+  line = same ∙ told ∙ append-nil (zoned_text n (total n)) ∙ ap (λ m. zoned_text m (total m)) is;
+  long = ap length same ∙ long;
+}
+
+-- what holds where there is a value
+pub on_ok_is : {T E P : Type 0} (r : Result T E) → is_ok r ≡ true → OnOk r P → P
+on_ok_is (Ok x) is there = there
+on_ok_is (Err e) is there = absurd (true≢false (sym is))

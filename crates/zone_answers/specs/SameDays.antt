@@ -1,0 +1,40 @@
+-- Requests for instants of one local day, whose lines differ in the last digits alone: their answers' lines differ in the time of day.
+use Rattle.std.specs.{Prelude.{◌≡◌, ℕ, ◌+◌, ◌-◌, ◌≤◌, ◌<◌, ◌++◌, ◌∷◌, true, ℤ, pos, ◌≤ℤ◌, ◌<ℤ◌, All, List, None, length, take, drop}, Char.{is_digit}, List.{list_all}, Str.Parse.{digits_value}}
+use Rattle.civil_base.specs.{Clock.{nanos_per_day}, Instants.{local_at, nanos_of}, Layout.{time_part, time_text}}
+use Rattle.tz_lookup.specs.declared.stretch.Stretch.{Stretch}
+use Rattle.zone_answers.specs.{Due.{answer_line, shown_for}, Faults.{request_refusal}, Found.{Found}, ReadBack.{IsReadBack}}
+
+-- the request, whatever its number, is answered by this line, where names find this
+pub record IsAnswered (names : List ℕ → Found) (request answer : List ℕ) : Type 0 where
+  pub accepted : (n : ℕ) → request_refusal names n request ≡ None
+  pub line : answer_line names request ≡ answer
+  pub back : All IsReadBack (shown_for names request)
+
+-- the digits that may differ
+pub record AreLast (last : List ℕ) : Type 0 where
+  pub count : length last ≡ 14
+  pub digits : list_all (λ c. is_digit c 10) last ≡ true
+
+-- a line with another time of day
+abbrev pub at_time : List ℕ → ℕ → List ℕ
+at_time line nanos = take 10 line ++ (32 ∷ time_text nanos) ++ drop 29 line
+
+-- With these last digits behind the front, numbers from one up to another are answered by the line with another time of day, which is
+-- so many nanoseconds from midnight at the first.
+pub record IsSameDay (names : List ℕ → Found) (front : List ℕ) (from until begins : ℕ) (line : List ℕ) : Type 0 where
+  pub ends : begins + until ≤ from + nanos_per_day
+  pub each : (last : List ℕ) → AreLast last → from ≤ digits_value 10 last → digits_value 10 last < until
+      → IsAnswered names (front ++ last) (at_time line (begins + (digits_value 10 last - from)))
+
+-- one total is in force at each instant of the stretch's seconds, of which there may be none
+abbrev pub IsThroughout : (ℤ → ℤ) → Stretch → Type 0
+IsThroughout total stretch = (t : ℤ) → nanos_of stretch.from ≤ℤ t → t <ℤ nanos_of stretch.until → total t ≡ stretch.offset
+
+-- These instants lie around one, on its local day and in the stretch's seconds. It is so late on that day at the first.
+pub record IsAround (stretch : Stretch) (now from until at_first : ℕ) : Type 0 where
+  pub begun : from ≤ now
+  pub lasts : now < until
+  pub first : nanos_of stretch.from ≤ℤ pos from
+  pub past : pos until ≤ℤ nanos_of stretch.until
+  pub begins : at_first + now ≡ time_part (local_at (pos now) stretch.offset) + from
+  pub day : at_first + until ≤ from + nanos_per_day
