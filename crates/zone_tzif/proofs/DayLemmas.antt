@@ -14,10 +14,15 @@ pub over_by : (local d b : ℤ) → d ≡ int_div_euclid local (pos 86400) → b
     → local <ℤ (pos 86400 *ℤ (d -ℤ b) +ℤ pos 604800)
 over_by local d b is greatest = omega (arith, signed, is, floored local 86400)
 
-module _ (d b : ℤ) (low : pos 40000 ≤ℤ d) (high : d ≤ℤ pos 60000) (least : neg_ℤ (pos 7) ≤ℤ b) (greatest : b ≤ℤ pos 6) where
-  pub day_range : (pos 0 ≤ℤ (d -ℤ b)) × ((d -ℤ b) ≤ℤ pos 100000)
-  day_range = (omega (arith, signed), omega (arith, signed))
+-- a day so many days before another, and as it is computed
+pub record IsNamedDay (d b : ℤ) : Type 0 where
+  pub computed : to_z w32 (of_z w32 (to_z w64 (of_z w64 (to_z w64 (of_z w64 d) -ℤ to_z w64 (of_z w64 b))))) ≡ d -ℤ b
+  pub least : pos 0 ≤ℤ (d -ℤ b)
+  pub greatest : (d -ℤ b) ≤ℤ pos 100000
 
-  -- as it is computed
-  pub day_less : to_z w32 (of_z w32 (to_z w64 (of_z w64 (to_z w64 (of_z w64 d) -ℤ to_z w64 (of_z w64 b))))) ≡ d -ℤ b
-  day_less = omega (arith, signed_casts)
+pub named_by : (d b : ℤ) → pos 40000 ≤ℤ d → d ≤ℤ pos 60000 → neg_ℤ (pos 7) ≤ℤ b → b ≤ℤ pos 6 → IsNamedDay d b
+named_by d b low high least greatest = record {
+  computed = omega (arith, signed_casts);
+  least = omega (arith, signed);
+  greatest = omega (arith, signed);
+}

@@ -1,4 +1,5 @@
-use Rattle.std.proofs.Common.{FitsSigned, w64, rules, to_z-of_z, sym, ap, ◌∙◌}
+use borrow.Author.Rules.{to_z-of_z_to}
+use Rattle.std.proofs.Common.{w64, rules, sym, ap, ◌∙◌}
 use Rattle.zone_spans.specs.declared.span.FixedTimespan.{FixedTimespan}
 use Rattle.zone_tail.specs.Tails.{can_be_written, is_name}
 use Rattle.zone_tzif.{specs.Tried.{form_fault, written_or}, proofs.FormLemmas.{total_of_span-is}}
@@ -9,8 +10,8 @@ unfolding form_fault
 returns-in-Steady g c =
     let set = g.S.SpanTable.seen c.args.set.now in
     let shows = rw c.in-Steady.is at c.requires.form in
-    let fits : FitsSigned w64 c.total_of.result = search rules in
-    let written = c.can_be_written.ensures ∙ ap can_be_written (to_z-of_z fits ∙ c.total_of.ensures.total ∙ total_of_span-is set c.in-Steady.span shows.1) in
+    let written = c.can_be_written.ensures
+    ∙ ap can_be_written (to_z-of_z_to w64 c.total_of.result _ (search rules) (c.total_of.ensures.total ∙ total_of_span-is set c.in-Steady.span shows.1)) in
     let name = c.is_name.ensures ∙ ap is_name (c.as_str.ensures ∙ ap (λ (s : FixedTimespan). s.name) c.span.ensures) in
     c.written_or.ensures ∙ (λ i. written_or (written i) (name i)) ∙ sym (ap form_fault shows.0)
 
