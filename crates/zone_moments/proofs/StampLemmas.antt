@@ -62,19 +62,11 @@ plain_again {a} {n} {u} are unit inside rest apart =
 left_again : {a : List ℕ} {t : ℤ} → SpellsStamp a t → (rest : List ℕ) → is_apart rest ≡ true → left_in (a ++ rest) ≡ Some (t, length rest)
 unfolding left_in count_in
 left_again (instant (since {a} {b} {n} {f} are fraction inside)) rest apart =
-    rw (
-      append_assoc a b rest,
-      again.count_again are fraction (again.few false n f inside) rest (apart_stops rest apart),
-      apart,
-      again.within _ inside,
-    ) refl
+    let count = again.count_again are fraction (again.few false n f inside) rest (apart_stops rest apart) in
+    rw (append_assoc a b rest, count, apart, again.within _ inside) refl
 left_again (instant (before {a} {b} {n} {f} are fraction inside)) rest apart =
-    rw (
-      append_assoc a b rest,
-      again.before_again are fraction (again.few true n f inside) rest (apart_stops rest apart),
-      apart,
-      again.within _ inside,
-    ) refl
+    let count = again.before_again are fraction (again.few true n f inside) rest (apart_stops rest apart) in
+    rw (append_assoc a b rest, count, apart, again.within _ inside) refl
 left_again (instant (zoned {a} {z = z} c dated mark (time {a = m} {b = f} {s = s} timed small fraction) exist offset inside)) rest apart =
     rw (
       again.laid_out a m f z rest c s,

@@ -150,28 +150,30 @@ span_at_tail : (first : FixedTimespan) (d e : Entry) (es : List Entry) (k : ℕ)
 span_at_tail first d e es zero = refl
 span_at_tail first d e es (suc k) = refl
 
+-- a cut before the first entry is one of those behind it, and so is any other, an entry earlier
+cut_before : (e : Entry) (es : List Entry) (s : ℤ) → IsCut (shifts (e ∷ es)) zero s → IsCut (shifts es) zero s
+cut_before e es s h =
+    record { within = omega arith; before = λ j l. absurd (omega arith); after = λ j l m. h.after (suc j) (omega arith) (omega (arith, m)) }
+
+cut_behind : (e : Entry) (es : List Entry) (k : ℕ) (s : ℤ) → IsCut (shifts (e ∷ es)) (suc k) s → IsCut (shifts es) k s
+cut_behind e es k s h = record {
+  within = omega (arith, h.within);
+  before = λ j l. h.before (suc j) (omega arith);
+  after = λ j l m. h.after (suc j) (omega arith) (omega (arith, m));
+}
+
 span_from_cut : (first : FixedTimespan) (d : Entry) (entries : List Entry) (k : ℕ) (s : ℤ) → IsCut (shifts entries) k s
     → span_from first entries s ≡ span_at first d entries k
 span_from_cut first d [] zero s h = refl
 span_from_cut first d [] (suc k) s h = absurd (omega (arith, h.within))
 span_from_cut first d (e ∷ es) zero s h =
-    let none : IsCut (shifts es) zero s = record {
-      within = omega arith;
-      before = λ j l. absurd (omega arith);
-      after = λ j l m. h.after (suc j) (omega arith) (omega (arith, m));
-    } in
     ap (λ b. last_span first (cond b (e ∷ filter (λ (r : Entry). int_le r.0 s) es) (filter (λ (r : Entry). int_le r.0 s) es)))
     (le_fail e.0 s (h.after 0 (omega arith) (omega arith)))
-    ∙ span_from_cut first d es zero s none
+    ∙ span_from_cut first d es zero s (cut_before e es s h)
 span_from_cut first d (e ∷ es) (suc k) s h =
-    let fewer : IsCut (shifts es) k s = record {
-      within = omega (arith, h.within);
-      before = λ j l. h.before (suc j) (omega arith);
-      after = λ j l m. h.after (suc j) (omega arith) (omega (arith, m));
-    } in
     ap (λ b. last_span first (cond b (e ∷ filter (λ (r : Entry). int_le r.0 s) es) (filter (λ (r : Entry). int_le r.0 s) es)))
     (le_pass e.0 s (h.before 0 (omega arith)))
-    ∙ span_from_cut e.1 d es k s fewer ∙ span_at_tail first d e es k
+    ∙ span_from_cut e.1 d es k s (cut_behind e es k s h) ∙ span_at_tail first d e es k
 
 span_in-is : (set : FixedTimespanSet) (k : ℕ) → span_at set.first (pos 0, set.first) set.others k ≡ span_in set k
 span_in-is set zero = refl
