@@ -1,5 +1,5 @@
 -- What is due of an instant that a zone shows.
-use Rattle.std.{proofs.Common.{◌≡◌, ℕ, ℤ, List, Bool, true, false, not, cond, ap, subst, sym, ◌∙◌, refl}, specs.Prelude.{Ok, Err}}
+use Rattle.std.{proofs.Common.{◌≡◌, ◌++◌, ℕ, ℤ, List, Bool, true, false, not, cond, ap, subst, sym, ◌∙◌, refl}, specs.Prelude.{Ok, Err}}
 use Rattle.civil_base.specs.{DateTimes.{instant, local_of, offset_of}, Instants.{local_at}, Ranges.{is_in_years}, declared.offset_date_time.OffsetDateTime.{OffsetDateTime}}
 use Rattle.zone_moments.specs.declared.answer_form.AnswerForm.{AnswerForm, TheVariants.{People, Rfc3339, Epoch, Json}}
 use Rattle.zone_replies.specs.{Faults.{Due}, Instants.{at_due, instant_text, is_untold, kind_at, shown_due, IsKindFor}, Views.{ZoneView}, declared.fault.ReplyFault.TheVariants.{OutOfYears, Untold}, declared.kind.Kind.{Kind}}
@@ -27,6 +27,13 @@ told_is form view name kind t d at is years untold =
     let past : is_untold view (local_at t (view.total t)) ≡ false = ap (is_untold view) (sym (clock_is view t d at is)) ∙ untold in
     (λ i. decided (years i) (past i) (instant_text form view name kind t (view.total t)))
     ∙ sym (λ i. Ok (instant_text form view name kind (at i) (is i)))
+
+-- behind a text, where it is of the form that is asked for
+pub text_as : (old : List ℕ) (form own : AnswerForm) (view : ZoneView) (name : List ℕ) (kind : Kind) (d : OffsetDateTime) (x : ℤ) (text : ℤ → List ℕ)
+    → x ≡ local_of d → form ≡ own → text (local_at (instant d) (offset_of d)) ≡ instant_text own view name kind (instant d) (offset_of d)
+    → old ++ text x ≡ old ++ instant_text form view name kind (instant d) (offset_of d)
+text_as old form own view name kind d x text at is same =
+    ap (λ y. old ++ text y) (at ∙ local_is d) ∙ ap (λ t. old ++ t) same ∙ ap (λ f. old ++ instant_text f view name kind (instant d) (offset_of d)) (sym is)
 
 same_kind : (form : AnswerForm) (view : ZoneView) (name : List ℕ) (kind wanted : Kind) (t o : ℤ) → IsKindFor form kind wanted
     → instant_text form view name kind t o ≡ instant_text form view name wanted t o
