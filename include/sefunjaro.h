@@ -500,7 +500,8 @@ static inline uint32_t sefunjaro_clock_at(const struct sefunjaro_zone *zone, int
    and abbreviation are in force. In a zone of a source `from` is the second of its last entry up to then, or INT64_MIN, and `until` that of
    the next change, as sefunjaro_next_change tells it, which may change nothing, or the end of 10501. In a zone of a file or of a POSIX
    string `from` is the instant's own second, and at `until` another offset, abbreviation or kind of time comes; where none comes up to the
-   year 8307, `until` lies past it. Outside the years -4000 to 8000 such a zone tells that second alone.
+   year 8307, `until` lies past it, which takes long to find where a rule goes on. Outside the years -4000 to 8000 such a zone tells that
+   second alone.
    NOT_OPEN, OUT_OF_RANGE (also where the local date lies outside the years -9999 to 9999). */
 static inline uint32_t sefunjaro_answer_at(const struct sefunjaro_zone *zone, int64_t second, uint32_t nanosecond,
                                            struct sefunjaro_answer *answer, char *name, size_t room) {
