@@ -1,5 +1,5 @@
 //! The texts of candidates.
-ghost use Rattle.std.specs.{Prelude.{◌≡◌, ◌++◌, IsTrue, OnOk, IfOk, string_bytes}, Char.{is_ascii_alphabetic}, Fmt.{decimal}, List.{list_all}};
+ghost use Rattle.std.specs.{Prelude.{◌≡◌, ◌++◌, codes, IsTrue, OnOk, IfOk, string_bytes}, Char.{is_ascii_alphabetic}, Fmt.{decimal}, List.{list_all}};
 ghost use Rattle.zone_tail.specs.{Ready.{CanBeWritten, CanWriteRule}, Tails.{can_be_written}, Texts.{change_text, clock_text, is_plain, minute_text, name_text, offset_text, rule_text, saving_text, second_text, text_of, time_text, two_digits}};
 
 use crate::candidate::Candidate;
@@ -29,13 +29,13 @@ pub(crate) fn candidate_text(
     ensures { IfOk result (λ text. string_bytes text ≡ text_of standard.now saving.now candidate.now) }
 {
     match candidate {
-        Candidate::Fixed(total) => fixed_text(alloc, standard, *total),
+        Candidate::Fixed(total) => steady_text(alloc, standard, *total),
         Candidate::Ruled(rule) => ruled_text(alloc, standard, saving, rule),
     }
 }
 
-/// That of standard time alone.
-fn fixed_text(alloc: Global, name: &str, total: i64) -> Result<String, AllocError>
+/// That of standard time alone, by its name and its total.
+pub fn steady_text(alloc: Global, name: &str, total: i64) -> Result<String, AllocError>
     requires { IsTrue (can_be_written total) }
     ensures { IfOk result (λ text. string_bytes text ≡ name_text name.now ++ offset_text total) }
 {
@@ -45,7 +45,29 @@ fn fixed_text(alloc: Global, name: &str, total: i64) -> Result<String, AllocErro
     Ok(text)
 }
 
+/// Standard and daylight saving time, each by its name and its total.
+pub fn totals_text(
+    alloc: Global,
+    standard_name: &str,
+    standard: i64,
+    saving_name: &str,
+    saving: i64,
+) -> Result<String, AllocError>
+    requires standard { IsTrue (can_be_written standard) }
+    requires saving { IsTrue (can_be_written saving) }
+    ensures { IfOk result (λ text. string_bytes text ≡ name_text standard_name.now ++ offset_text standard
+        ++ name_text saving_name.now ++ saving_text standard saving) }
+{
+    let mut text = String::new(alloc);
+    add_name(&mut text, standard_name)?;
+    add_offset(&mut text, standard)?;
+    add_name(&mut text, saving_name)?;
+    add_saving(&mut text, standard, saving)?;
+    Ok(text)
+}
+
 /// That of a rule.
+#[tactic(auto, using(std::proofs::Common::append_assoc))]
 fn ruled_text(
     alloc: Global,
     standard: &str,
@@ -56,11 +78,7 @@ fn ruled_text(
     ensures { IfOk result (λ text. string_bytes text ≡ name_text standard.now ++ offset_text rule.now.standard
         ++ name_text saving.now ++ saving_text rule.now.standard rule.now.saving ++ rule_text rule.now) }
 {
-    let mut text = String::new(alloc);
-    add_name(&mut text, standard)?;
-    add_offset(&mut text, rule.standard)?;
-    add_name(&mut text, saving)?;
-    add_saving(&mut text, rule.standard, rule.saving)?;
+    let mut text = totals_text(alloc, standard, rule.standard, saving, rule.saving)?;
     add_rule(&mut text, rule)?;
     Ok(text)
 }
@@ -145,16 +163,24 @@ fn add_rule(text: &mut String, rule: &YearlyRule) -> Result<(), AllocError>
     add_change(text, &rule.end)
 }
 
-#[tactic(auto, unfolding(crate::specs::Texts::change_text))]
+/// The date of a change: the month, which of its days with the weekday, and the weekday.
+pub fn add_date(text: &mut String, month: u8, week: u8, weekday: u8) -> Result<(), AllocError>
+    ensures { OnOk result (string_bytes text.new ≡ string_bytes text.old
+        ++ codes "M" ++ decimal month ++ codes "." ++ decimal week ++ codes "." ++ decimal weekday) }
+{
+    add(text, "M")?;
+    add_number(text, u32::from(month))?;
+    add(text, ".")?;
+    add_number(text, u32::from(week))?;
+    add(text, ".")?;
+    add_number(text, u32::from(weekday))
+}
+
+#[tactic(auto, using(std::proofs::Common::append_assoc), unfolding(crate::specs::Texts::change_text))]
 fn add_change(text: &mut String, change: &Change) -> Result<(), AllocError>
     ensures { OnOk result (string_bytes text.new ≡ string_bytes text.old ++ change_text change.now) }
 {
-    add(text, "M")?;
-    add_number(text, u32::from(change.month))?;
-    add(text, ".")?;
-    add_number(text, u32::from(change.week))?;
-    add(text, ".")?;
-    add_number(text, u32::from(change.weekday))?;
+    add_date(text, change.month, change.week, change.weekday)?;
     add_clock(text, change.second)
 }
 
