@@ -1,11 +1,10 @@
-//! The texts of the footers that are tried.
-ghost use Rattle.std.specs.{Prelude.{◌≡◌, ◌++◌, ◌<◌, ◌≤◌, ◌/◌, OnOk, IfOk, IsTrue, string_bytes, pos, neg_ℤ, ◌+ℤ◌, ◌-ℤ◌, ◌*ℤ◌, ◌<ℤ◌, ◌≤ℤ◌, unsigned_abs}, Int.{int_div_euclid}};
-ghost use Rattle.zone_tail.specs.{Tails.{can_be_written}, Texts.{name_text, offset_text, saving_text}};
+//! The changes in the footers that are tried.
+ghost use Rattle.std.specs.{Prelude.{◌≡◌, ◌++◌, ◌<◌, ◌≤◌, ◌/◌, OnOk, string_bytes, pos, neg_ℤ, ◌+ℤ◌, ◌-ℤ◌, ◌*ℤ◌, ◌<ℤ◌, ◌≤ℤ◌, unsigned_abs}, Int.{int_div_euclid}};
 ghost use Rattle.zone_tzif.specs.Tried.{change_by, days_back, is_past_noon, moment_text, parts_text, signed_text, week_of};
 
 use basics::{date_of, month_length, weekday};
-use std::alloc::{AllocError, Global};
-use zone_tail::parts::{add, add_name, add_number, add_offset, add_saving, add_time};
+use std::alloc::AllocError;
+use zone_tail::parts::{add, add_date, add_time};
 
 const SECONDS_PER_DAY: i64 = 86_400;
 
@@ -13,38 +12,6 @@ const NOON: i64 = 43_200;
 
 /// 2:00, the time of a change where none is written.
 const TWO_HOURS: i64 = 7_200;
-
-/// The footer of one total.
-pub(crate) fn steady_text(alloc: Global, name: &str, total: i64) -> Result<String, AllocError>
-    requires { IsTrue (can_be_written total) }
-    ensures { IfOk result (λ text. string_bytes text ≡ name_text name.now ++ offset_text total) }
-{
-    let mut text = String::new(alloc);
-    add_name(&mut text, name)?;
-    add_offset(&mut text, total)?;
-    Ok(text)
-}
-
-/// Standard and daylight saving time of a footer, each by its name and its total.
-pub(crate) fn totals_text(
-    alloc: Global,
-    standard_name: &str,
-    standard: i64,
-    saving_name: &str,
-    saving: i64,
-) -> Result<String, AllocError>
-    requires standard { IsTrue (can_be_written standard) }
-    requires saving { IsTrue (can_be_written saving) }
-    ensures { IfOk result (λ text. string_bytes text ≡ name_text standard_name.now ++ offset_text standard
-        ++ name_text saving_name.now ++ saving_text standard saving) }
-{
-    let mut text = String::new(alloc);
-    add_name(&mut text, standard_name)?;
-    add_offset(&mut text, standard)?;
-    add_name(&mut text, saving_name)?;
-    add_saving(&mut text, standard, saving)?;
-    Ok(text)
-}
 
 /// How many days before a change the day lies by which it is named.
 fn days_back(is_late: bool, number: u32) -> i64
@@ -136,6 +103,7 @@ fn add_moment(text: &mut String, day: i32, seconds: i64, choice: u32) -> Result<
 }
 
 /// A month, a week, a weekday and a time.
+#[tactic(auto, using(std::proofs::Common::append_assoc))]
 fn add_parts(
     text: &mut String,
     month: u8,
@@ -146,12 +114,7 @@ fn add_parts(
     requires { unsigned_abs seconds ≤ 700_000 }
     ensures { OnOk result (string_bytes text.new ≡ string_bytes text.old ++ parts_text month week weekday seconds) }
 {
-    add(text, "M")?;
-    add_number(text, u32::from(month))?;
-    add(text, ".")?;
-    add_number(text, u32::from(week))?;
-    add(text, ".")?;
-    add_number(text, u32::from(weekday))?;
+    add_date(text, month, week, weekday)?;
     add_clock(text, seconds)
 }
 

@@ -8,10 +8,10 @@ ghost use Rattle.zone_tzif.specs.{Forms.{ArePlaced, Shows}, Tried.{changes_by, e
 
 use crate::faults::total_of_entry;
 use crate::form::Form;
-use crate::text::{add_change, steady_text, totals_text};
+use crate::text::add_change;
 use std::alloc::{AllocError, Global};
 use tz_lookup::SpanTable;
-use zone_tail::parts::{add, entry_span, entry_time, total_of};
+use zone_tail::parts::{add, entry_span, entry_time, steady_text, total_of, totals_text};
 
 /// How many ways there are to name a change.
 const WAYS: u32 = 28;
