@@ -34,7 +34,11 @@ pub(crate) fn candidate_text(
     }
 }
 
-/// That of standard time alone, by its name and its total.
+/// The string of standard time alone, by its name and its total, in seconds east of UTC and less than 25 hours in size.
+///
+/// # Errors
+///
+/// Want of memory alone.
 pub fn steady_text(alloc: Global, name: &str, total: i64) -> Result<String, AllocError>
     requires { IsTrue (can_be_written total) }
     ensures { IfOk result (λ text. string_bytes text ≡ name_text name.now ++ offset_text total) }
@@ -45,7 +49,12 @@ pub fn steady_text(alloc: Global, name: &str, total: i64) -> Result<String, Allo
     Ok(text)
 }
 
-/// Standard and daylight saving time, each by its name and its total.
+/// The front of a string: standard and daylight saving time, each by its name and its total, in seconds east of UTC and less than 25 hours
+/// in size.
+///
+/// # Errors
+///
+/// Want of memory alone.
 pub fn totals_text(
     alloc: Global,
     standard_name: &str,
@@ -163,7 +172,11 @@ fn add_rule(text: &mut String, rule: &YearlyRule) -> Result<(), AllocError>
     add_change(text, &rule.end)
 }
 
-/// The date of a change: the month, which of its days with the weekday, and the weekday.
+/// Adds the date of a change, as `M3.5.0`: the month, which of its days with the weekday, and the weekday.
+///
+/// # Errors
+///
+/// Want of memory alone. A part may then be added.
 pub fn add_date(text: &mut String, month: u8, week: u8, weekday: u8) -> Result<(), AllocError>
     ensures { OnOk result (string_bytes text.new ≡ string_bytes text.old
         ++ codes "M" ++ decimal month ++ codes "." ++ decimal week ++ codes "." ++ decimal weekday) }
