@@ -1,5 +1,5 @@
 -- Kinds that are kept once, and changes by their numbers.
-use Rattle.std.proofs.{Common.{◌≡◌, ℕ, zero, suc, ◌+◌, ◌<◌, ◌≤◌, ℤ, true, false, List, [], ◌∷◌, ◌++◌, length, map, take, drop, get_or, Some, None, slice_get, refl, sym, ap, ◌∙◌, arith, length-append, append-nil}, lemmas.List.{take_at, drop_at}}
+use Rattle.std.proofs.{Common.{◌≡◌, ℕ, zero, suc, ◌+◌, ◌<◌, ◌≤◌, ℤ, true, false, List, [], ◌∷◌, ◌++◌, length, map, take, drop, get_or, nat_eq, Some, None, slice_get, refl, sym, ap, ◌∙◌, arith, length-append, append-nil}, lemmas.Bool.Decides.{nat_tests}, lemmas.List.{take_at, drop_at, length-map}}
 use Rattle.std.proofs.lemmas.{Option.{none-some}, Simd.{map-map}, Str.{is_utf8-from_IsUtf8}}
 use Rattle.std.specs.Str.{IsUtf8, is_utf8}
 use Rattle.zone_tzif_core.specs.{Denotes.{IsName}, Reading.{Cuts, kind_in, kinds_in, shifts_in, joined_in}, Stored.{stored_kind, stored_name, IsStored}, ZoneFiles.{change_with, changes_with, file_with, kind_numbered, unnumbered}}
@@ -87,3 +87,10 @@ module _ (parts : Cuts) (kinds : List KindValue) (found : Some kinds ≡ kinds_i
     pub rising : (zone : ZoneValue) → true ≡ go_up (map (λ change. change.0) changes) → zone ≡ file_with kinds changes parts.footer → Some zone ≡ joined_in parts
     unfolding joined_in
     rising zone rise is = rw (← found, ← numbered_is kinds 0 some, ← shifts, ← (rise ∙ times_are kinds changes), is) refl
+
+-- as many as there are, and some where there are some
+pub some_mapped : {X Y : Type 0} (f : X → Y) (items counted seen : List X) → counted ≡ items → seen ≡ items → false ≡ nat_eq (length seen) 0
+    → (length (map f items) ≡ length counted) × (0 < length (map f items))
+some_mapped f items counted seen count some test =
+    let long : length (map f items) ≡ length items = length-map items f in
+    (long ∙ sym (ap length count), grind (arith, nat_tests, test, long, ap length some))
