@@ -1,5 +1,7 @@
 -- The instants of a local time, one after another.
-use Rattle.std.proofs.{Common.{◌≡◌, ◌+◌, ◌<◌, ◌≤◌, ℕ, suc, zero, List, [], ◌∷◌, ◌++◌, length, get_or, map, take, drop, refl, sym, ap, ◌∙◌, arith}, lemmas.List.{length-map}}
+use borrow.Author.Rules.{to_z-of_z_to}
+use Rattle.std.proofs.{Common.{◌≡◌, ◌+◌, ◌<◌, ◌≤◌, ℕ, suc, zero, ℤ, SFits, to_z, of_z, w32, w64, List, [], ◌∷◌, ◌++◌, length, get_or, map, take, drop, refl, sym, ap, ◌∙◌, arith}, lemmas.List.{length-map}}
+use Rattle.civil_base.specs.Instants.{nanos_of}
 use Rattle.sefunjaro.{specs.Rooms.{filled, filled_at}, proofs.CaseLemmas.{no_zero, next}, proofs.RoomLemmas.{filled_more}}
 
 take_one : {A : Type 0} → (all : List A) (n : ℕ) (x : A) (rest : List A) → drop n all ≡ x ∷ rest → take (suc n) all ≡ take n all ++ x ∷ []
@@ -49,3 +51,10 @@ all_taken [] zero h = refl
 all_taken [] (suc n) h = refl
 all_taken (x ∷ all) zero h = absurd (omega (arith, h))
 all_taken (x ∷ all) (suc n) h = ap (λ l. x ∷ l) (all_taken all n (omega (arith, h)))
+
+-- a second and the total there, each as so many bits hold it
+pub read_at : (total : ℤ → ℤ) (second given told : ℤ) → SFits w64 given → SFits w32 told → given ≡ second
+    → total (nanos_of (to_z w64 (of_z w64 given))) ≡ told → (to_z w64 (of_z w64 given) ≡ second) × (to_z w32 (of_z w32 told) ≡ total (nanos_of second))
+read_at total second given told wide short is shown =
+    let here = to_z-of_z_to w64 given second wide is in
+    (here, to_z-of_z_to w32 told _ short (sym shown ∙ ap (λ s. total (nanos_of s)) here))

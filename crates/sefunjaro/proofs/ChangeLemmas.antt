@@ -1,10 +1,10 @@
 -- Changes by their places.
-use Rattle.std.proofs.{Common.{◌≡◌, ◌+◌, ◌<◌, ◌≤◌, ℕ, zero, suc, Bool, true, false, cond, ℤ, pos, ◌≤ℤ◌, ◌<ℤ◌, List, [], ◌∷◌, length, map, take, drop, refl, sym, ap, ◌∙◌, arith}, lemmas.Int.{ints}, lemmas.List.{length-map}, lemmas.Option.{same_Some, none-some}}
+use Rattle.std.proofs.{Common.{◌≡◌, ◌+◌, ◌<◌, ◌≤◌, ℕ, zero, suc, Bool, true, false, cond, ℤ, pos, ◌≤ℤ◌, ◌<ℤ◌, List, [], ◌∷◌, length, map, take, drop, refl, sym, ap, subst, ◌∙◌, arith}, lemmas.Int.{ints}, lemmas.List.{length-map}, lemmas.Option.{same_Some, none-some}}
 use Rattle.std.specs.{Prelude.{◌&&◌, not, Option, Some, None, filter, int_le, int_lt}, List.{slice_get, slice_index_or}, Ordering.{int_eq}}
 use Rattle.basics.specs.ComparisonLaws.{le_pass, le_fail, lt_pass, lt_fail, lt_from_pass, lt_from_fail, eq_pass}
 use Rattle.zone_spans.specs.{Collapse.{is_same_span}, Entries.{Entry}, declared.span.FixedTimespan.{FixedTimespan}}
 use Rattle.tz_zone.specs.{Sets.{shift_of, shifts_of, span_in, total_of_span}, Spans.{shift_at, IsCut, TimesDontFall}, declared.set.FixedTimespanSet.{FixedTimespanSet}}
-use Rattle.sefunjaro.specs.{Changes.{change_of, changes_of, is_within, last_span, next_after, saving_at, settled_changes, span_before}, ChangeSteps.{how_many, with_change, AreParted, HasPut, IsChangeAt}, Replies.{span_on}, Rooms.{filled, filled_at}}
+use Rattle.sefunjaro.specs.{Changes.{change_of, changes_of, is_within, last_span, next_after, saving_at, settled_changes, span_before, window}, ChangeSteps.{how_many, with_change, AreParted, HasPut, IsChangeAt}, Replies.{span_on}, Rooms.{filled, filled_at}}
 use Rattle.sefunjaro.specs.declared.changes.Change.{Change}
 use Rattle.sefunjaro.proofs.{AskLemmas.{all_taken, dropped}, CaseLemmas.{no_zero, next}}
 
@@ -298,6 +298,15 @@ met_all set from to entries start room place n met late =
     passes_none set (in_window from to) entries place (λ j l m. lies_after from to _ (late j l m)) in
     let every : n ≡ length all = omega (arith, met.every, ap length none) in
     (met.stands ∙ ap (λ l. filled l start) (all_taken all n (omega (arith, every))), every)
+
+-- and so of all of a window, by the seconds that 64 bits hold
+pub met_window : (set : FixedTimespanSet) (from to a b : ℤ) (start room : List Change) (place n : ℕ) → a ≡ from → b ≡ to
+    → AreMet set a b set.others start place n room → ((j : ℕ) → place ≤ j → j < length set.others → b ≤ℤ (shift_at (map shift_of set.others) j).0)
+    → (room ≡ filled (window set from to) start) × (n ≡ length (window set from to))
+unfolding window
+met_window set from to a b start room place n same until met late =
+    subst (λ x. (room ≡ filled (window set x to) start) × (n ≡ length (window set x to))) same
+    (subst (λ y. (room ≡ filled (window set a y) start) × (n ≡ length (window set a y))) until (met_all set a b set.others start room place n met late))
 
 -- the entry in the middle lies before a second, and so do those below it
 pub before_more : (entries : List Entry) (middle : ℕ) (second : ℤ) → TimesDontFall (map shift_of entries) → middle < length entries

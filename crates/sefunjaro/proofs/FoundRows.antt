@@ -2,8 +2,8 @@
 use Rattle.std.{proofs.Common.{◌≡◌, ◌<◌, cond, ℕ, zero, suc, ℤ, pos, negsuc, [], ◌∷◌, lit<, lit≤, refl, ap, arith}, specs.Prelude.{int_lt, slice_index_or}, proofs.lemmas.Int.{ints}}
 use Rattle.basics.specs.Days.{days_in_month, is_leap}
 use Rattle.civil_base.specs.Instants.{seconds_of}
-use Rattle.sefunjaro.specs.{Clocks.{clock_shown, IsClock}, Found.{AreFound, IsFirstFaulty, IsFound, IsFoundInGap, IsFoundOf}, declared.clock.Clock.{Clock}, declared.found.FoldRule.TheVariants.{First, Second}, declared.found.Found.{Found}}
-use Rattle.sefunjaro.specs.declared.{found.GapRule.{GapRule}, found.GapRule.TheVariants.{Before, After, None}, zone.Reading.{Reading}}
+use Rattle.sefunjaro.specs.{Clocks.{clock_shown, IsClock}, Found.{by_gap, AreFound, IsFirstFaulty, IsFound, IsFoundInGap, IsFoundOf}, declared.clock.Clock.{Clock}, declared.found.FoldRule.TheVariants.{First, Second}, declared.found.Found.{Found}}
+use Rattle.sefunjaro.specs.declared.{found.GapRule.{GapRule}, found.GapRule.TheVariants.{Before, After, None}, gap.Gap.{Gap}, zone.Reading.{Reading}}
 
 abbrev jump : ℤ → ℤ
 jump t = cond (int_lt t (pos 0)) (pos 0) (pos 3600)
@@ -32,28 +32,19 @@ second_of_four = refl
 abbrev skipped : GapRule → Found → Type 0
 skipped rule item = IsFoundInGap jump rule (pos 1800000000000) item
 
-by_the_offset_before : skipped Before (found (pos 1800) (pos 0) 0)
-unfolding seconds_of
-by_the_offset_before = record {
-  gap = record { second = pos 0; before = pos 0; after = pos 3600 };
+abbrev hour : Gap
+hour = record { second = pos 0; before = pos 0; after = pos 3600 }
+
+in_gap : (rule : GapRule) (item : Found) → item ≡ by_gap rule (pos 1800000000000) hour → skipped rule item
+in_gap rule item is = record {
+  gap = hour;
   skipped = record { before = refl; after = refl; behind = omega (arith, ints); ahead = omega (arith, ints) };
-  is = refl;
+  is = is;
 }
 
-by_the_offset_after : skipped After (found (negsuc 1799) (pos 3600) 0)
+by_each_rule : skipped Before (found (pos 1800) (pos 0) 0) × skipped After (found (negsuc 1799) (pos 3600) 0) × skipped None (found (pos 0) (pos 0) 0)
 unfolding seconds_of
-by_the_offset_after = record {
-  gap = record { second = pos 0; before = pos 0; after = pos 3600 };
-  skipped = record { before = refl; after = refl; behind = omega (arith, ints); ahead = omega (arith, ints) };
-  is = refl;
-}
-
-by_the_change : skipped None (found (pos 0) (pos 0) 0)
-by_the_change = record {
-  gap = record { second = pos 0; before = pos 0; after = pos 3600 };
-  skipped = record { before = refl; after = refl; behind = omega (arith, ints); ahead = omega (arith, ints) };
-  is = refl;
-}
+by_each_rule = (in_gap Before _ refl, in_gap After _ refl, in_gap None _ refl)
 
 -- an hour has no minute 60
 abbrev at_minute : ℕ → Clock

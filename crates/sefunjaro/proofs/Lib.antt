@@ -13,6 +13,7 @@ mod GapLemmas
 pub mod GapRows
 pub mod PosixNameRows
 pub mod PosixRows
+mod RowSets
 mod OnlyLemmas
 mod ReplyRows
 mod ReleaseLemmas

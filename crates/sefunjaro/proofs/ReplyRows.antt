@@ -1,21 +1,14 @@
 -- A worked example: what replies see of a small zone.
 use Rattle.std.{proofs.Common.{◌≡◌, ℤ, List, pos, negsuc, [], ◌∷◌, ℕ, map, refl}, specs.Prelude.{None, codes}}
 use Rattle.zone_replies.specs.Views.{InForce}
-use Rattle.zone_spans.specs.declared.span.FixedTimespan.{FixedTimespan}
 use Rattle.tz_zone.specs.declared.set.FixedTimespanSet.{FixedTimespanSet}
 use Rattle.sefunjaro.specs.{Changes.{settled_changes, span_before, window}, Replies.{reply_view, span_on}}
-
-abbrev span : ℤ → ℤ → List ℕ → FixedTimespan
-span standard saving name = record { utc_offset = standard; dst_offset = saving; name = name }
+use Rattle.sefunjaro.proofs.RowSets.{span, with}
 
 -- a saving from second 10 on, an entry that changes nothing, and two entries at one second, of which the last is in force
 abbrev zone : FixedTimespanSet
-zone = record {
-  name = [];
-  first = span (pos 3600) (pos 0) (codes "A");
-  others = (pos 10, span (pos 3600) (pos 1800) (codes "B")) ∷ (pos 20, span (pos 3600) (pos 1800) (codes "B")) ∷ (pos 30, span (pos 0) (pos 0) (codes "C"))
-      ∷ (pos 30, span (pos 7200) (negsuc 59) (codes "D")) ∷ [];
-}
+zone = with (span (pos 3600) (pos 0) (codes "A")) ((pos 10, span (pos 3600) (pos 1800) (codes "B")) ∷ (pos 20, span (pos 3600) (pos 1800) (codes "B"))
+    ∷ (pos 30, span (pos 0) (pos 0) (codes "C")) ∷ (pos 30, span (pos 7200) (negsuc 59) (codes "D")) ∷ [])
 
 abbrev force : ℤ → ℤ → List ℕ → InForce
 force offset saving name = record { offset = offset; saving = saving; name = name }

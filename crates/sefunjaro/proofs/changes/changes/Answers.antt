@@ -1,6 +1,6 @@
-use Rattle.std.proofs.{Common.{◌≡◌, ◌<◌, length, to_z, of_z, to_z-of_z, w64, subst, arith}, lemmas.List.{length-map}}
+use Rattle.std.proofs.{Common.{◌<◌, length, to_z, of_z, to_z-of_z, w64, arith}, lemmas.List.{length-map}}
 use Rattle.tz_zone.specs.Sets.{shift_of}
-use Rattle.sefunjaro.{specs.Changes.{window}, specs.Rooms.{filled}, proofs.ChangeLemmas.{met_all, met_more, met_none}}
+use Rattle.sefunjaro.proofs.ChangeLemmas.{met_more, met_none, met_window}
 use Rattle.sefunjaro.proofs.changes.changes.Goals as goal
 
 pub loop-place-init : goal.loop-place-init
@@ -23,21 +23,13 @@ loop-place-preserved g c =
     }
 
 pub returns-clause-room : goal.returns-clause-room
-unfolding window
 returns-clause-room g c =
-    let set = g.S.SpanTable.seen c.args.set.now in let from = to_z-of_z c.ranges.from in let to = to_z-of_z c.ranges.to in
-    let met = met_all set (to_z w64 (of_z w64 c.args.from)) (to_z w64 (of_z w64 c.args.to)) set.others c.args.room.now c.loop-place.room
-    c.loop-place.place c.loop-place.count c.loop-place.invariant.met
-    (λ j l m. c.entries_before.ensures.after j (omega (arith, c.loop-place-test.false, c.max-end.ensures, l)) (omega (arith, m, length-map set.others shift_of))) in
-    subst (λ a. c.loop-place.room ≡ filled (window set a c.args.to) c.args.room.now) from
-    (subst (λ b. c.loop-place.room ≡ filled (window set (to_z w64 (of_z w64 c.args.from)) b) c.args.room.now) to met.0)
+    (met_window (g.S.SpanTable.seen c.args.set.now) _ _ _ _ _ _ _ _ (to_z-of_z c.ranges.from) (to_z-of_z c.ranges.to) c.loop-place.invariant.met
+    (λ j l m. c.entries_before.ensures.after j (omega (arith, c.loop-place-test.false, c.max-end.ensures, l))
+    (omega (arith, m, length-map (g.S.SpanTable.seen c.args.set.now).others shift_of)))).0
 
 pub returns-clause-count : goal.returns-clause-count
-unfolding window
 returns-clause-count g c =
-    let set = g.S.SpanTable.seen c.args.set.now in let from = to_z-of_z c.ranges.from in let to = to_z-of_z c.ranges.to in
-    let met = met_all set (to_z w64 (of_z w64 c.args.from)) (to_z w64 (of_z w64 c.args.to)) set.others c.args.room.now c.loop-place.room
-    c.loop-place.place c.loop-place.count c.loop-place.invariant.met
-    (λ j l m. c.entries_before.ensures.after j (omega (arith, c.loop-place-test.false, c.max-end.ensures, l)) (omega (arith, m, length-map set.others shift_of))) in
-    subst (λ a. c.loop-place.count ≡ length (window set a c.args.to)) from
-    (subst (λ b. c.loop-place.count ≡ length (window set (to_z w64 (of_z w64 c.args.from)) b)) to met.1)
+    (met_window (g.S.SpanTable.seen c.args.set.now) _ _ _ _ _ _ _ _ (to_z-of_z c.ranges.from) (to_z-of_z c.ranges.to) c.loop-place.invariant.met
+    (λ j l m. c.entries_before.ensures.after j (omega (arith, c.loop-place-test.false, c.max-end.ensures, l))
+    (omega (arith, m, length-map (g.S.SpanTable.seen c.args.set.now).others shift_of)))).1

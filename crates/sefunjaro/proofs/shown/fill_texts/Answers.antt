@@ -1,7 +1,7 @@
-use Rattle.std.proofs.{Common.{◌∙◌, ◌∷◌, pos, get_or, length, take, SFits, to_z, of_z, w32, w64, rules, refl, sym, ap, subst, arith, length-append}, lemmas.Int.{to_z-of_z}}
+use Rattle.std.proofs.{Common.{◌∙◌, ◌∷◌, pos, get_or, length, take, SFits, to_z, of_z, w32, rules, refl, sym, ap, subst, arith, length-append}, lemmas.Int.{to_z-of_z}}
 use Rattle.basics.specs.SignedLaws.{signed}
 use Rattle.civil_base.specs.{Instants.{local_at, nanos_of}, Layout.{offset_text}, Ranges.{IsOffset}}
-use Rattle.sefunjaro.{specs.Rooms.{filled, filled_from}, specs.Shown.{line_of, texts_of}, proofs.RoomLemmas.{filled_behind}, proofs.ShownLemmas.{line_is, texts_taken}}
+use Rattle.sefunjaro.{specs.Rooms.{filled, filled_from}, specs.Shown.{line_of, texts_of}, proofs.AskLemmas.{read_at}, proofs.RoomLemmas.{filled_behind}, proofs.ShownLemmas.{line_is, texts_taken}}
 use Rattle.sefunjaro.proofs.shown.fill_texts.Goals as goal
 
 pub loop-i-init : goal.loop-i-init
@@ -16,19 +16,14 @@ east_for-east-requires-clause-offset g c =
 
 pub loop-i-preserved : goal.loop-i-preserved
 loop-i-preserved g c =
-    let seconds = c.args.seconds.now in
-    let i = c.loop-i.i in
-    let second = get_or seconds i (pos 0) in
+    let second = get_or c.args.seconds.now c.loop-i.i (pos 0) in
     let total = g.Z.Stretches.total_at c.args.zone.now in
-    let offset_fits : SFits w32 c.next-known.result.offset = search rules in
-    let second_fits : SFits w64 c.second_at-second.result = search rules in
-    let here = to_z-of_z w64 _ second_fits ∙ c.second_at-second.ensures in
-    let told = to_z-of_z w32 _ offset_fits ∙ sym c.next-known.ensures.here ∙ ap (λ s. total (nanos_of s)) here in
+    let read = read_at total second c.second_at-second.result c.next-known.result.offset (search rules) (search rules) c.second_at-second.ensures c.next-known.ensures.here in
     let east = c.east_for-east.ensures.offset in
     let line = line_is total second c.local_at.result c.east_for-east.result.offset
-    (c.local_at.ensures ∙ ap (λ s. local_at (nanos_of s) (to_z w32 (of_z w32 c.next-known.result.offset))) here ∙ ap (local_at (nanos_of second)) (sym east)) (east ∙ told) in
-    let so_far = texts_of total (take i seconds) in
-    let all = texts_taken total seconds i c.loop-i-test.true in
+    (c.local_at.ensures ∙ ap (λ s. local_at (nanos_of s) (to_z w32 (of_z w32 c.next-known.result.offset))) read.0 ∙ ap (local_at (nanos_of second)) (sym east)) (east ∙ read.1) in
+    let so_far = texts_of total (take c.loop-i.i c.args.seconds.now) in
+    let all = texts_taken total c.args.seconds.now c.loop-i.i c.loop-i-test.true in
     record {
       known = c.next-known.ensures.known;
       east = c.east_for-east.ensures.text ∙ ap (λ o. 32 ∷ offset_text o) (sym east);
