@@ -6,7 +6,7 @@ use Rattle.civil_base.specs.{Clock.{nanos_per_day}, Instants.{local_at, nanos_of
 use Rattle.zone_spans.specs.Schedules.{Schedule, total_at}
 use Rattle.tz_zone.specs.{SecondLaws.{IsSecond, one_second, second_is, total_is}, Spans.{total_from}}
 use Rattle.tz_lookup.specs.{Stretches.{IsKnown}, declared.stretch.Stretch.{Stretch}}
-use Rattle.zone_answers.specs.{AskedLaws.{Asks}, Due.{answer_line, answer_text, shown_at}, Faults.{has_dates, range}, Found.{Found}, Requests.{at, request_of}, SameDays.{AreLast, IsAnswered, IsAround, IsSameDay, IsThroughout, at_time}}
+use Rattle.zone_answers.specs.{AskedLaws.{Asks}, Due.{answer_line, answer_text, shown_at}, Faults.{has_dates, range}, Found.{Found}, Requests.{at, request_of}, SameDayLaws.{in_seconds}, SameDays.{AreLast, IsAnswered, IsAround, IsSameDay, IsThroughout, at_time}}
 use Rattle.zone_answers.proofs.{DayLemmas.{IsSameDate, other_time, same_date}, LastLemmas.{IsOther, all_digits, other_request}, ReadBackLemmas.{line_back}, RequestLemmas.{digits_from}, RefusalLemmas.{dates_are, line_is}}
 
 -- a request for an instant of a zone that was found, its line, and what is in force there
@@ -76,22 +76,15 @@ same_day names total front last name now number line stretch from until begins b
         (same_date (local_at (pos now) (total (pos now))) (local_at m (total (pos now))) _
         (omega (arith, signed, is, begun, later, after, low)) (omega (arith, around.day, sooner, high, low, later, after)))
 
-begun : (a t s : ℤ) → IsSecond t s → nanos_of a ≤ℤ t → a ≤ℤ s
-begun a t s is l = omega (arith, ints, is.low, is.high, l)
-
-lasts : (a t s : ℤ) → IsSecond t s → t <ℤ nanos_of a → s <ℤ a
-lasts a t s is l = omega (arith, ints, is.low, is.high, l)
-
 at_second : (s : ℤ) → IsSecond (nanos_of s) s
 at_second s = record { low = omega (arith, signed); high = omega (arith, signed) }
 
 -- the total of a stretch's seconds is that of all instants in them
 pub throughout : (zone : Schedule) (stretch : Stretch) → IsKnown (total_at zone) stretch → IsThroughout (total_at zone) stretch
-throughout zone stretch known t low high =
+throughout zone stretch = in_seconds (total_at zone) stretch (λ t.
     let second = seconds_of t in
-    let is = second_is t in
     total_is zone t ∙ ap (total_from zone.first zone.shifts) (one_second (nanos_of second) second (seconds_of (nanos_of second)) (at_second second) (second_is (nanos_of second)))
-    ∙ sym (total_is zone (nanos_of second)) ∙ known second (begun stretch.from t second is low) (lasts stretch.until t second is high)
+    ∙ sym (total_is zone (nanos_of second)))
 
 -- the time of day of a local time from 1970 on
 pub time_of : (x : ℤ) (n : ℕ) → pos n ≡ x → time_part x ≡ n % 86400000000000

@@ -21,5 +21,6 @@ pub mod Starts
 pub mod AskedLaws
 pub mod FoundLaws
 pub mod EndLaws
+pub mod SameDayLaws
 -- Words of private clauses.
 pub mod Tasks

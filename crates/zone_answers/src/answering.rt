@@ -66,6 +66,10 @@ pub fn answers(
 }
 
 /// The same where zones are opened in another way.
+///
+/// # Errors
+///
+/// The first fault, with its line, as zones are read in that way: that of the source, else that of the requests; or want of memory.
 pub fn answers_with<Z: OpenedZone>(
     alloc: Global,
     parser: &LineParser,

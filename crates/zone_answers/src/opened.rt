@@ -1,6 +1,6 @@
 //! Zones that requests name, each opened once and kept.
-ghost use Rattle.std.specs.Prelude.{◌≡◌, ◌++◌, ℤ, false, IfErr, IfOk, IsTrue, Ok, OnErr};
-ghost use Rattle.civil_base.specs.Ranges.{IsOffset};
+ghost use Rattle.std.specs.Prelude.{◌≡◌, ◌++◌, ℤ, pos, ◌≤ℤ◌, false, IfErr, IfOk, IsTrue, Ok, OnErr};
+ghost use Rattle.civil_base.specs.Ranges.{far_seconds, IsOffset};
 ghost use Rattle.zone_table.specs.{BoundedTables.{IsBoundedTable}, Resolved.{resolved_in}};
 ghost use Rattle.zone_answers.specs.{Asked.{asked}, Due.{answer_text, shown_at}, Faults.{has_dates, zone_refusal}, Found.{Reading, found_in_table}, Requests.{IsSpelled}, SameDays.{IsAnswered, IsSameDay, IsThroughout}, Told.{TellsReading}};
 
@@ -30,13 +30,14 @@ pub trait OpenedZone: Drop {
         ensures ok { IfOk result (λ zone. found_in_table read table.now name.now ≡ Ok (total_at zone)) }
         ensures err { IfErr result (TellsReading (zone_refusal number (found_in_table read table.now name.now))) };
 
-    /// Seconds around one throughout which one total is in force; there may be none.
-    fn stretch_at(&self, _second: i64) -> Stretch
+    /// Seconds around one throughout which one total is in force; there may be none. They count from 1970-01-01 00:00:00 UTC.
+    fn stretch_at(&self, second: i64) -> Stretch
+        requires { second ≤ℤ pos far_seconds }
         ensures { IsThroughout (total_at self.now) result }
     {
         Stretch {
-            from: 0,
-            until: 0,
+            from: second,
+            until: second,
             offset: 0,
         }
     }

@@ -3,8 +3,8 @@ ghost use Rattle.std.specs.Prelude.{◌≡◌};
 ghost use Rattle.zone_ever.specs.Refused.{Refuses, find_fault};
 
 use std::alloc::{AllocError, Global};
-use tz_ever::{EverFault, EverSet, EverTz, laws};
-use tz_lookup::ZoneFault;
+use tz_ever::{EverFault, EverSet, EverTz, ever_stretch, laws};
+use tz_lookup::{Stretch, ZoneFault};
 use zone_answers::{AnswerError, OpenedZone, ReadingError, Request, show, show_spelled};
 use zone_run::{FindFault, FoundZone};
 use zone_spans::SpanFault;
@@ -54,6 +54,11 @@ impl OpenedZone for EverZone {
             Ok(set) => Ok(EverZone { set }),
             Err(fault) => Err(refused(number, find_fault(fault))),
         }
+    }
+
+    fn stretch_at(&self, second: i64) -> Stretch {
+        laws::holds_in_seconds();
+        ever_stretch(&self.set, second)
     }
 
     fn show(&self, request: &Request<'_>, text: &mut Vec<u8>) -> Result<bool, AllocError> {
