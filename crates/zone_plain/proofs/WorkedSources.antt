@@ -1,6 +1,6 @@
 -- Worked rows: the lines of a source with `%z` written out.
 use Rattle.std.{proofs.Common.{◌≡◌, ℕ, suc, List, [], ◌∷◌, ◌++◌, map, pos, Option, Some, None, Ok, Err, true, cond, not, nat_lt, refl, ap, ◌∙◌}, specs.Prelude.{codes}, specs.Fmt.{digits}}
-use Rattle.zone_values.specs.{Seconds.{with_type}, Values.{SavingValue, no_saving, one_off, multiple, LineValue, space, zone, continuation, rule, link}, declared.day.DaySpec.TheVariants.{Ordinal}, declared.month.Month.TheVariants.{June}}
+use Rattle.zone_values.specs.{Months.{month_name}, Seconds.{with_type}, Values.{SavingValue, no_saving, one_off, multiple, LineValue, space, zone, continuation, rule, link}, declared.day.DaySpec.TheVariants.{Ordinal}, declared.month.Month.TheVariants.{June}}
 use Rattle.zone_values.specs.declared.{time.TimeSpec.{TimeSpec}, time.TimeSpec.TheVariants.{Hours, HoursMinutes}, time.TimeType.TheVariants.{Wall}, year.Year.TheVariants.{Minimum}}
 use Rattle.zone_plain_lines.specs.declared.cause.PlainCause.TheVariants as cause
 use Rattle.zone_plain_base.specs.{PlainTexts.{plain_text, rule_text, years_text, year_text, to_text, moment_text, day_text, time_text}, LineFaults.{at, bad_line, too_long}, Marks.{ending_within}, Renamed.{mark_of}}
@@ -93,11 +93,11 @@ two = under_one (first ∷ second ∷ [])
 
 made_texts : map plain_text (made_for two (pairs_of two))
     ≡ codes "Rule _a min only - Jun 14 0 1 +03" ∷ codes "Rule _b min only - Jun 14 0 1 +04" ∷ []
-unfolding asked_by around_mark pairs_from rules_named mark_of ending_within made_name offset_text plain_text rule_text years_text year_text to_text moment_text day_text time_text digits
+unfolding asked_by around_mark pairs_from rules_named mark_of ending_within made_name offset_text plain_text rule_text years_text year_text to_text moment_text day_text time_text digits month_name
 made_texts = refl
 
 two_sizes : made_size two (pairs_of two) ≡ 68
-unfolding asked_by around_mark pairs_from rules_named mark_of ending_within made_name offset_text plain_text rule_text years_text year_text to_text moment_text day_text time_text digits
+unfolding asked_by around_mark pairs_from rules_named mark_of ending_within made_name offset_text plain_text rule_text years_text year_text to_text moment_text day_text time_text digits month_name
 two_sizes = refl
 
 -- where the line can be said, its length decides
@@ -115,24 +115,24 @@ abbrev again : List LineValue
 again = under_one (first ∷ first ∷ [])
 
 again_at_limit : is_changed_said again (name_in again) (asked first) first ≡ true → refused_from 34 again 1 [] again ≡ None
-unfolding refused_from asked_by around_mark pairs_from rules_named mark_of ending_within made_name offset_text plain_text rule_text years_text year_text to_text moment_text day_text time_text digits
+unfolding refused_from asked_by around_mark pairs_from rules_named mark_of ending_within made_name offset_text plain_text rule_text years_text year_text to_text moment_text day_text time_text digits month_name
 again_at_limit said =
     by_length 34 again 2 [] first (first ∷ []) said ∙ by_length 34 again 3 (joined_by (asked first) []) first [] said
 
 again_past : is_changed_said again (name_in again) (asked first) first ≡ true → refused_from 33 again 1 [] again ≡ Some too_long
-unfolding refused_from asked_by around_mark pairs_from rules_named mark_of ending_within made_name offset_text plain_text rule_text years_text year_text to_text moment_text day_text time_text digits
+unfolding refused_from asked_by around_mark pairs_from rules_named mark_of ending_within made_name offset_text plain_text rule_text years_text year_text to_text moment_text day_text time_text digits month_name
 again_past said = by_length 33 again 2 [] first (first ∷ []) said
 
 -- and another one with it
 two_at_limit : is_changed_said two (name_in two) (asked first) first ≡ true → is_changed_said two (name_in two) (asked second) second ≡ true
     → refused_from 68 two 1 [] two ≡ None
-unfolding refused_from asked_by around_mark pairs_from rules_named mark_of ending_within made_name offset_text plain_text rule_text years_text year_text to_text moment_text day_text time_text digits
+unfolding refused_from asked_by around_mark pairs_from rules_named mark_of ending_within made_name offset_text plain_text rule_text years_text year_text to_text moment_text day_text time_text digits month_name
 two_at_limit said then_said =
     by_length 68 two 2 [] first (second ∷ []) said ∙ by_length 68 two 3 (joined_by (asked first) []) second [] then_said
 
 two_past : is_changed_said two (name_in two) (asked first) first ≡ true → is_changed_said two (name_in two) (asked second) second ≡ true
     → refused_from 67 two 1 [] two ≡ Some too_long
-unfolding refused_from asked_by around_mark pairs_from rules_named mark_of ending_within made_name offset_text plain_text rule_text years_text year_text to_text moment_text day_text time_text digits
+unfolding refused_from asked_by around_mark pairs_from rules_named mark_of ending_within made_name offset_text plain_text rule_text years_text year_text to_text moment_text day_text time_text digits month_name
 two_past said then_said =
     by_length 67 two 2 [] first (second ∷ []) said ∙ by_length 67 two 3 (joined_by (asked first) []) second [] then_said
 
@@ -141,10 +141,10 @@ abbrev then_far : List LineValue
 then_far = under_one (first ∷ a_line (Hours (pos 99)) (one_off (Hours (pos 1))) (codes "%z") ∷ [])
 
 length_before_later : is_changed_said then_far (name_in then_far) (asked first) first ≡ true → refused_from 33 then_far 1 [] then_far ≡ Some too_long
-unfolding refused_from asked_by around_mark pairs_from rules_named mark_of ending_within made_name offset_text plain_text rule_text years_text year_text to_text moment_text day_text time_text digits
+unfolding refused_from asked_by around_mark pairs_from rules_named mark_of ending_within made_name offset_text plain_text rule_text years_text year_text to_text moment_text day_text time_text digits month_name
 length_before_later said = by_length 33 then_far 2 [] first (a_line (Hours (pos 99)) (one_off (Hours (pos 1))) (codes "%z") ∷ []) said
 
 later_at_limit : is_changed_said then_far (name_in then_far) (asked first) first ≡ true
     → refused_from 34 then_far 1 [] then_far ≡ Some (bad_line (at 3 cause.Unsayable))
-unfolding refused_from asked_by around_mark pairs_from rules_named mark_of ending_within made_name offset_text plain_text rule_text years_text year_text to_text moment_text day_text time_text digits
+unfolding refused_from asked_by around_mark pairs_from rules_named mark_of ending_within made_name offset_text plain_text rule_text years_text year_text to_text moment_text day_text time_text digits month_name
 later_at_limit said = by_length 34 then_far 2 [] first (a_line (Hours (pos 99)) (one_off (Hours (pos 1))) (codes "%z") ∷ []) said

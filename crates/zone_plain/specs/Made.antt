@@ -17,16 +17,7 @@ total_of offset r = offset +ℤ seconds_of r.time_to_add
 
 -- the rule under another name and with other letters
 abbrev pub renamed : RuleValue → List ℕ → List ℕ → RuleValue
-renamed r name letters = record {
-  name = name;
-  from_year = r.from_year;
-  to_year = r.to_year;
-  month = r.month;
-  day = r.day;
-  time = r.time;
-  time_to_add = r.time_to_add;
-  letters = Some letters;
-}
+renamed r name letters = record r { name = name; letters = Some letters }
 
 -- the same rule under another name, its letters the text of its total
 abbrev pub made_rule : List ℕ → ℤ → RuleValue → RuleValue
@@ -34,16 +25,7 @@ made_rule name offset r = renamed r name (offset_text (total_of offset r))
 
 -- the same rule as a table has it, its letters the text of its total
 abbrev pub made_info : ℤ → RuleInfo → RuleInfo
-made_info offset r = record {
-  from_year = r.from_year;
-  to_year = r.to_year;
-  month = r.month;
-  day = r.day;
-  time = r.time;
-  time_type = r.time_type;
-  time_to_add = r.time_to_add;
-  letters = Some (offset_text (offset +ℤ r.time_to_add));
-}
+made_info offset r = record r { letters = Some (offset_text (offset +ℤ r.time_to_add)) }
 
 -- the total has a text, and the rule can be said
 abbrev pub is_rule_said : List ℕ → ℤ → RuleValue → Bool
@@ -58,20 +40,16 @@ are_rules_said values name pair = list_all (is_rule_said name pair.offset) (rule
 
 -- the line with another format
 abbrev pub with_format : LineValue → List ℕ → LineValue
-with_format (zone name info) format =
-    zone name (record { utc_offset = info.utc_offset; saving = info.saving; format = format; time = info.time })
-with_format (continuation info) format =
-    continuation (record { utc_offset = info.utc_offset; saving = info.saving; format = format; time = info.time })
+with_format (zone name info) format = zone name (record info { format = format })
+with_format (continuation info) format = continuation (record info { format = format })
 with_format space format = space
 with_format (rule r) format = rule r
 with_format (link existing new) format = link existing new
 
 -- the line under another ruleset
 abbrev pub with_ruleset : LineValue → List ℕ → LineValue
-with_ruleset (zone name info) other =
-    zone name (record { utc_offset = info.utc_offset; saving = multiple other; format = info.format; time = info.time })
-with_ruleset (continuation info) other =
-    continuation (record { utc_offset = info.utc_offset; saving = multiple other; format = info.format; time = info.time })
+with_ruleset (zone name info) other = zone name (record info { saving = multiple other })
+with_ruleset (continuation info) other = continuation (record info { saving = multiple other })
 with_ruleset space other = space
 with_ruleset (rule r) other = rule r
 with_ruleset (link existing new) other = link existing new

@@ -1,6 +1,6 @@
 -- Plain texts at worked rows.
 use Rattle.std.{proofs.Common.{◌≡◌, [], ◌∷◌, map, Some, None, refl, pos, negsuc}, specs.Prelude.{codes}, specs.Fmt.{digits}}
-use Rattle.zone_values.specs.{Seconds.{with_type}, Values.{no_saving, one_off, multiple, InfoValue, space, zone, continuation, rule, link}, declared.change.ChangeTime.TheVariants.{UntilYear, UntilMonth, UntilDay, UntilTime}}
+use Rattle.zone_values.specs.{Months.{month_name}, Seconds.{with_type}, Values.{no_saving, one_off, multiple, InfoValue, space, zone, continuation, rule, link}, Weekdays.{weekday_name}, declared.change.ChangeTime.TheVariants.{UntilYear, UntilMonth, UntilDay, UntilTime}}
 use Rattle.zone_values.specs.declared.{day.DaySpec.TheVariants.{Ordinal, Last, LastOnOrBefore, FirstOnOrAfter}, month.Month.TheVariants.{January, February, March, April, May, June, July, August, September, October, November, December}}
 use Rattle.zone_values.specs.declared.{time.TimeSpec.TheVariants.{Hours, HoursMinutes, HoursMinutesSeconds, Zero}, time.TimeType.TheVariants.{Standard, UTC}, weekday.Weekday.TheVariants.{Sunday, Monday, Tuesday, Wednesday, Thursday, Friday, Saturday}}
 use Rattle.zone_values.specs.declared.year.Year.TheVariants.{Minimum, Maximum, Number}
@@ -14,16 +14,18 @@ times = refl
 
 days : map day_text (Ordinal (pos 14) ∷ Last Sunday ∷ LastOnOrBefore Sunday (pos 25) ∷ FirstOnOrAfter Sunday (pos 8) ∷ [])
     ≡ codes "14" ∷ codes "lastSun" ∷ codes "Sun<=25" ∷ codes "Sun>=8" ∷ []
-unfolding day_text digits
+unfolding day_text digits weekday_name
 days = refl
 
 months : map month_text (January ∷ February ∷ March ∷ April ∷ May ∷ June ∷ July ∷ August ∷ September ∷ October ∷ November ∷ December ∷ [])
     ≡ codes "Jan" ∷ codes "Feb" ∷ codes "Mar" ∷ codes "Apr" ∷ codes "May" ∷ codes "Jun" ∷ codes "Jul" ∷ codes "Aug" ∷ codes "Sep" ∷ codes "Oct" ∷ codes "Nov"
     ∷ codes "Dec" ∷ []
+unfolding month_name
 months = refl
 
 weekdays : map weekday_text (Sunday ∷ Monday ∷ Tuesday ∷ Wednesday ∷ Thursday ∷ Friday ∷ Saturday ∷ [])
     ≡ codes "Sun" ∷ codes "Mon" ∷ codes "Tue" ∷ codes "Wed" ∷ codes "Thu" ∷ codes "Fri" ∷ codes "Sat" ∷ []
+unfolding weekday_name
 weekdays = refl
 
 years : map to_text (Some Minimum ∷ Some Maximum ∷ Some (Number (pos 1916)) ∷ None ∷ []) ≡ codes "min" ∷ codes "max" ∷ codes "1916" ∷ codes "only" ∷ []
@@ -40,7 +42,7 @@ a_rule : plain_text (rule (record {
   time_to_add = HoursMinutes (pos 1) (pos 0);
   letters = Some (codes "S");
 })) ≡ codes "Rule d 1916 only - Jun 14 23:00s 1:00 S"
-unfolding plain_text rule_text years_text moment_text to_text year_text day_text time_text clock_text digits
+unfolding plain_text rule_text years_text moment_text to_text year_text day_text time_text clock_text digits weekday_name month_name
 a_rule = refl
 
 abbrev info : InfoValue
@@ -53,12 +55,12 @@ info = record {
 
 lines : map plain_text (zone (codes "A/B") info ∷ continuation info ∷ link (codes "A") (codes "C") ∷ space ∷ [])
     ≡ codes "Zone A/B -3:00 b A%sB 1999 Oct lastFri 2:00u" ∷ codes " -3:00 b A%sB 1999 Oct lastFri 2:00u" ∷ codes "Link A C" ∷ codes "" ∷ []
-unfolding plain_text info_text stretch_text saving_text end_text moment_text year_text day_text time_text clock_text digits
+unfolding plain_text info_text stretch_text saving_text end_text moment_text year_text day_text time_text clock_text digits weekday_name month_name
 lines = refl
 
 ends : map end_text (UntilYear (Number (pos 1999)) ∷ UntilMonth (Number (pos 1999)) May ∷ UntilDay (Number (pos 1999)) May (Ordinal (pos 3)) ∷ [])
     ≡ codes " 1999" ∷ codes " 1999 May" ∷ codes " 1999 May 3" ∷ []
-unfolding end_text year_text day_text digits
+unfolding end_text year_text day_text digits weekday_name month_name
 ends = refl
 
 amounts : map saving_text (no_saving ∷ one_off (HoursMinutes (pos 1) (pos 30)) ∷ multiple (codes "EU") ∷ []) ≡ codes "-" ∷ codes "1:30" ∷ codes "EU" ∷ []

@@ -1,11 +1,9 @@
 -- The plain text of what a line means.
-use Rattle.std.specs.{Prelude.{ℕ, ◌+◌, ◌/◌, ◌%◌, ℤ, pos, ◌||◌, List, [], ◌∷◌, ◌++◌, Option, Some, None, int_lt, unsigned_abs, codes, decimal, if◌then◌else◌}, Fmt.{signed_decimal}}
-use Rattle.zone_values.specs.{Values.{SavingValue, no_saving, one_off, multiple, InfoValue, RuleValue, LineValue, space, zone, continuation, rule, link}, declared.change.ChangeTime.{ChangeTime}}
+use Rattle.std.specs.{Prelude.{ℕ, ◌+◌, ◌/◌, ◌%◌, ℤ, pos, ◌||◌, List, [], ◌∷◌, ◌++◌, take, Option, Some, None, int_lt, unsigned_abs, codes, decimal, if◌then◌else◌}, Fmt.{signed_decimal}}
+use Rattle.zone_values.specs.{Months.{month_name}, Values.{SavingValue, no_saving, one_off, multiple, InfoValue, RuleValue, LineValue, space, zone, continuation, rule, link}, Weekdays.{weekday_name}, declared.change.ChangeTime.{ChangeTime}}
 use Rattle.zone_values.specs.declared.{change.ChangeTime.TheVariants.{UntilYear, UntilMonth, UntilDay, UntilTime}, day.DaySpec.{DaySpec}, day.DaySpec.TheVariants.{Ordinal, Last, LastOnOrBefore, FirstOnOrAfter}, month.Month.{Month}, time.TimeSpec.{TimeSpec}}
 use Rattle.zone_values.specs.declared.{time.TimeSpec.TheVariants.{Hours, HoursMinutes, HoursMinutesSeconds, Zero}, time.TimeType.{TimeType}, time.TimeType.TheVariants.{Wall, Standard, UTC}, time.TimeSpecAndType.{TimeSpecAndType}, weekday.Weekday.{Weekday}}
 use Rattle.zone_values.specs.declared.year.Year.{Year, TheVariants.{Minimum, Maximum, Number}}
-use Rattle.zone_values.specs.declared.month.Month.TheVariants as month
-use Rattle.zone_values.specs.declared.weekday.Weekday.TheVariants as weekday
 
 abbrev pub two_digits : ℕ → List ℕ
 two_digits n = (48 + n / 10) ∷ (48 + n % 10) ∷ []
@@ -31,28 +29,12 @@ mark_text Wall = []
 mark_text Standard = codes "s"
 mark_text UTC = codes "u"
 
+-- the first three letters of its name
 abbrev pub month_text : Month → List ℕ
-month_text month.January = codes "Jan"
-month_text month.February = codes "Feb"
-month_text month.March = codes "Mar"
-month_text month.April = codes "Apr"
-month_text month.May = codes "May"
-month_text month.June = codes "Jun"
-month_text month.July = codes "Jul"
-month_text month.August = codes "Aug"
-month_text month.September = codes "Sep"
-month_text month.October = codes "Oct"
-month_text month.November = codes "Nov"
-month_text month.December = codes "Dec"
+month_text month = take 3 (month_name month)
 
 abbrev pub weekday_text : Weekday → List ℕ
-weekday_text weekday.Sunday = codes "Sun"
-weekday_text weekday.Monday = codes "Mon"
-weekday_text weekday.Tuesday = codes "Tue"
-weekday_text weekday.Wednesday = codes "Wed"
-weekday_text weekday.Thursday = codes "Thu"
-weekday_text weekday.Friday = codes "Fri"
-weekday_text weekday.Saturday = codes "Sat"
+weekday_text weekday = take 3 (weekday_name weekday)
 
 -- 14, lastSun, Sun<=25 or Sun>=1
 unfoldable pub day_text : DaySpec → List ℕ

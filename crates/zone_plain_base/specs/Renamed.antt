@@ -30,23 +30,14 @@ saving_by (one_off amount) name = one_off amount
 saving_by (multiple old) name = multiple name
 
 abbrev pub info_by : InfoValue → List ℕ → InfoValue
-info_by info name = record { utc_offset = info.utc_offset; saving = saving_by info.saving name; format = info.format; time = info.time }
+info_by info name = record info { saving = saving_by info.saving name }
 
 -- the line with another name for its ruleset
 abbrev pub under : LineValue → List ℕ → LineValue
 under space name = space
 under (zone zone_name info) name = zone zone_name (info_by info name)
 under (continuation info) name = continuation (info_by info name)
-under (rule r) name = rule (record {
-  name = name;
-  from_year = r.from_year;
-  to_year = r.to_year;
-  month = r.month;
-  day = r.day;
-  time = r.time;
-  time_to_add = r.time_to_add;
-  letters = r.letters;
-})
+under (rule r) name = rule (record r { name = name })
 under (link existing new) name = link existing new
 
 -- the line with its ruleset by the name of the plain form, in a source of that mark

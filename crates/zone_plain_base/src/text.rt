@@ -105,6 +105,7 @@ fn mark_text(clock: TimeType) -> &'static str
 }
 
 /// The short name of a month.
+#[tactic(auto, unfolding(zone_values::specs::Months::month_name))]
 fn month_text(month: Month) -> &'static str
     ensures { result.now ≡ month_text month }
 {
@@ -125,6 +126,7 @@ fn month_text(month: Month) -> &'static str
 }
 
 /// The short name of a weekday.
+#[tactic(auto, unfolding(zone_values::specs::Weekdays::weekday_name))]
 fn weekday_text(weekday: Weekday) -> &'static str
     ensures { result.now ≡ weekday_text weekday }
 {

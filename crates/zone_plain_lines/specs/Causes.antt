@@ -1,27 +1,14 @@
 -- The names of causes.
-use Rattle.std.specs.Prelude.{ℕ, List, codes}
-use Rattle.zone_plain_lines.specs.declared.cause.PlainCause.{PlainCause}
-use Rattle.zone_plain_lines.specs.declared.cause.PlainCause.TheVariants as cause
+use Rattle.std.specs.Prelude.{ℕ, List, [], ◌∷◌, get_or, codes}
+use denote.Enum.Declared.{tag_of as place_among}
+use Rattle.zone_plain_lines.specs.{contracts.cause.PlainCause.{the_type as causes}, declared.cause.PlainCause.{PlainCause}}
+
+-- in the order of the variants
+abbrev pub cause_names : List (List ℕ)
+cause_names =
+    codes "not text" ∷ codes "Quotes" ∷ codes "LineType" ∷ codes "FieldCount" ∷ codes "RulesetName" ∷ codes "Year" ∷ codes "YearOrder"
+    ∷ codes "Type" ∷ codes "Month" ∷ codes "Day" ∷ codes "Time" ∷ codes "Saving" ∷ codes "Format" ∷ codes "Unsayable" ∷ codes "Continuation"
+    ∷ codes "UnknownRuleset" ∷ codes "DuplicateZone" ∷ codes "LinkIsZone" ∷ codes "DuplicateLink" ∷ codes "Target" ∷ codes "Name" ∷ []
 
 abbrev pub cause_name : PlainCause → List ℕ
-cause_name cause.NotText = codes "not text"
-cause_name cause.Quotes = codes "Quotes"
-cause_name cause.LineType = codes "LineType"
-cause_name cause.FieldCount = codes "FieldCount"
-cause_name cause.RulesetName = codes "RulesetName"
-cause_name cause.Year = codes "Year"
-cause_name cause.YearOrder = codes "YearOrder"
-cause_name cause.Type = codes "Type"
-cause_name cause.Month = codes "Month"
-cause_name cause.Day = codes "Day"
-cause_name cause.Time = codes "Time"
-cause_name cause.Saving = codes "Saving"
-cause_name cause.Format = codes "Format"
-cause_name cause.Unsayable = codes "Unsayable"
-cause_name cause.Continuation = codes "Continuation"
-cause_name cause.UnknownRuleset = codes "UnknownRuleset"
-cause_name cause.DuplicateZone = codes "DuplicateZone"
-cause_name cause.LinkIsZone = codes "LinkIsZone"
-cause_name cause.DuplicateLink = codes "DuplicateLink"
-cause_name cause.Target = codes "Target"
-cause_name cause.Name = codes "Name"
+cause_name cause = get_or cause_names (place_among causes cause) []

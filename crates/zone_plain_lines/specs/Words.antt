@@ -1,8 +1,8 @@
 -- Words in any case, in full or abbreviated to a beginning that fits one word of their list alone; a word in full is such a beginning, since no
 -- word of a list begins another.
 use Rattle.std.specs.{Prelude.{ℕ, List, [], ◌∷◌, drop, length, take, Bool, ◌&&◌, Option, Some, None, Result, ok_or, codes, bytes_eq, nat_le, filter, if◌then◌else◌}, Borrow.{Bor}}
-use Rattle.zone_values.specs.{Names.{lower}, declared.month.Month.{Month}, declared.month.Month.TheVariants.{January, February, March, April, May, June, July, August, September, October, November, December}, declared.weekday.Weekday.{Weekday}}
-use Rattle.zone_values.specs.declared.{weekday.Weekday.TheVariants.{Sunday, Monday, Tuesday, Wednesday, Thursday, Friday, Saturday}, year.Year.{Year}, year.Year.TheVariants.{Minimum, Maximum}}
+pub use Rattle.zone_values.specs.{Months.{named_months as months}, Weekdays.{named_weekdays as weekdays}}
+use Rattle.zone_values.specs.{Names.{lower}, declared.month.Month.{Month}, declared.weekday.Weekday.{Weekday}, declared.year.Year.{Year}, declared.year.Year.TheVariants.{Minimum, Maximum}}
 use Rattle.zone_plain_lines.specs.declared.{cause.PlainCause.{PlainCause}, words.LineWord.{LineWord}, words.LineWord.TheVariants.{Rule, Zone, Link}}
 use Rattle.zone_plain_lines.specs.declared.cause.PlainCause.TheVariants as cause
 
@@ -39,38 +39,11 @@ line_words =
 unfoldable pub line_word : List ℕ → Result LineWord PlainCause
 line_word text = ok_or (meant line_words text) cause.LineType
 
-abbrev pub months : List (Word Month)
-months =
-    (codes "January", January)
-    ∷ (codes "February", February)
-    ∷ (codes "March", March)
-    ∷ (codes "April", April)
-    ∷ (codes "May", May)
-    ∷ (codes "June", June)
-    ∷ (codes "July", July)
-    ∷ (codes "August", August)
-    ∷ (codes "September", September)
-    ∷ (codes "October", October)
-    ∷ (codes "November", November)
-    ∷ (codes "December", December)
-    ∷ []
-
 unfoldable pub month_word : List ℕ → Option Month
 month_word text = meant months text
 
 unfoldable pub month_of : List ℕ → Result Month PlainCause
 month_of text = ok_or (month_word text) cause.Month
-
-abbrev pub weekdays : List (Word Weekday)
-weekdays =
-    (codes "Sunday", Sunday)
-    ∷ (codes "Monday", Monday)
-    ∷ (codes "Tuesday", Tuesday)
-    ∷ (codes "Wednesday", Wednesday)
-    ∷ (codes "Thursday", Thursday)
-    ∷ (codes "Friday", Friday)
-    ∷ (codes "Saturday", Saturday)
-    ∷ []
 
 unfoldable pub weekday_of : List ℕ → Option Weekday
 weekday_of text = meant weekdays text

@@ -1,6 +1,7 @@
 -- What is wrong with a line: a kind, and the text that is refused.
-use Rattle.std.specs.{Prelude.{◌≡◌, ℕ, List, Option, Some, None, Result, Ok, Err, IfSome, string_bytes, codes}, Result.{result_map_both}}
-use Rattle.zone_values.specs.{Names.{lower}, declared.error.Error.{Error}, declared.fault.FaultKind.{FaultKind}}
+use Rattle.std.specs.{Prelude.{◌≡◌, ℕ, List, [], ◌∷◌, get_or, Option, Some, None, Result, Ok, Err, IfSome, string_bytes, codes}, Result.{result_map_both}}
+use denote.Enum.Declared.{tag_of as place_among}
+use Rattle.zone_values.specs.{Names.{lower}, contracts.fault.FaultKind.{the_type as kinds}, declared.error.Error.{Error}, declared.fault.FaultKind.{FaultKind}}
 use Rattle.zone_values.specs.declared.fault.FaultKind.TheVariants.{FailedYearParse, FailedMonthParse, FailedWeekdayParse, InvalidLineType, TypeColumnContainedNonHyphen, CouldNotParseSaving, InvalidDaySpec, InvalidTimeSpecAndType, NonWallClockInTimeSpec}
 use Rattle.zone_values.specs.declared.error.Error.TheVariants as error
 use Rattle.zone_values.specs.declared.fault.Fault as code
@@ -13,17 +14,15 @@ pub record Fault : Type 0 where
 abbrev pub refused : FaultKind → List ℕ → Fault
 refused kind text = record { kind = kind; text = text }
 
--- the kind's name
+-- the names of the kinds, in the order of the variants
+abbrev pub fault_names : List (List ℕ)
+fault_names =
+    codes "FailedYearParse" ∷ codes "FailedMonthParse" ∷ codes "FailedWeekdayParse" ∷ codes "InvalidLineType"
+    ∷ codes "TypeColumnContainedNonHyphen" ∷ codes "CouldNotParseSaving" ∷ codes "InvalidDaySpec" ∷ codes "InvalidTimeSpecAndType"
+    ∷ codes "NonWallClockInTimeSpec" ∷ []
+
 abbrev pub fault_name : FaultKind → List ℕ
-fault_name FailedYearParse = codes "FailedYearParse"
-fault_name FailedMonthParse = codes "FailedMonthParse"
-fault_name FailedWeekdayParse = codes "FailedWeekdayParse"
-fault_name InvalidLineType = codes "InvalidLineType"
-fault_name TypeColumnContainedNonHyphen = codes "TypeColumnContainedNonHyphen"
-fault_name CouldNotParseSaving = codes "CouldNotParseSaving"
-fault_name InvalidDaySpec = codes "InvalidDaySpec"
-fault_name InvalidTimeSpecAndType = codes "InvalidTimeSpecAndType"
-fault_name NonWallClockInTimeSpec = codes "NonWallClockInTimeSpec"
+fault_name kind = get_or fault_names (place_among kinds kind) []
 
 -- the fault that an error tells; want of memory tells none
 abbrev pub fault_of : Error → Option Fault

@@ -1,6 +1,6 @@
 -- The months, by their names and numbers.
-use Rattle.std.specs.Prelude.{ℕ, List, Option, Some, None, ok_or, Result, ◌==◌, codes, if◌then◌else◌}
-use Rattle.zone_values.specs.{Faults.{Fault, refused}, declared.fault.FaultKind.TheVariants.{FailedMonthParse}, Names.{is_name, lower}, declared.month.Month.{Month}}
+use Rattle.std.specs.Prelude.{ℕ, ◌-◌, List, [], ◌∷◌, Option, ok_or, Result, ◌==◌, codes, if◌then◌else◌}
+use Rattle.zone_values.specs.{Faults.{Fault, refused}, declared.fault.FaultKind.TheVariants.{FailedMonthParse}, Names.{named, name_at, lower}, declared.month.Month.{Month}}
 use Rattle.zone_values.specs.declared.month.Month.TheVariants.{January, February, March, April, May, June, July, August, September, October, November, December}
 
 -- from 1 to 12
@@ -26,22 +26,19 @@ month_numbered n =
     else if n == 7 then July else if n == 8 then August else if n == 9 then September
     else if n == 10 then October else if n == 11 then November else December
 
+-- the months by their English names, in order
+abbrev pub named_months : List (List ℕ × Month)
+named_months =
+    (codes "January", January) ∷ (codes "February", February) ∷ (codes "March", March) ∷ (codes "April", April)
+    ∷ (codes "May", May) ∷ (codes "June", June) ∷ (codes "July", July) ∷ (codes "August", August)
+    ∷ (codes "September", September) ∷ (codes "October", October) ∷ (codes "November", November) ∷ (codes "December", December) ∷ []
+
+unfoldable pub month_name : Month → List ℕ
+month_name month = name_at named_months (month_number month - 1)
+
 -- the month of that English name
 unfoldable pub month_named : List ℕ → Option Month
-month_named text =
-    if is_name (codes "jan") (codes "january") text then Some January
-    else if is_name (codes "feb") (codes "february") text then Some February
-    else if is_name (codes "mar") (codes "march") text then Some March
-    else if is_name (codes "apr") (codes "april") text then Some April
-    else if is_name (codes "may") (codes "may") text then Some May
-    else if is_name (codes "jun") (codes "june") text then Some June
-    else if is_name (codes "jul") (codes "july") text then Some July
-    else if is_name (codes "aug") (codes "august") text then Some August
-    else if is_name (codes "sep") (codes "september") text then Some September
-    else if is_name (codes "oct") (codes "october") text then Some October
-    else if is_name (codes "nov") (codes "november") text then Some November
-    else if is_name (codes "dec") (codes "december") text then Some December
-    else None
+month_named text = named named_months text
 
 -- the fault holds the text in ASCII lower case
 abbrev pub month_field : List ℕ → Result Month Fault

@@ -1,6 +1,6 @@
 -- The days of the week, by their names.
-use Rattle.std.specs.Prelude.{ℕ, List, Option, Some, None, ok_or, Result, codes, if◌then◌else◌}
-use Rattle.zone_values.specs.{Faults.{Fault, refused}, declared.fault.FaultKind.TheVariants.{FailedWeekdayParse}, Names.{is_name, lower}, declared.weekday.Weekday.{Weekday}}
+use Rattle.std.specs.Prelude.{ℕ, List, [], ◌∷◌, Option, ok_or, Result, codes}
+use Rattle.zone_values.specs.{Faults.{Fault, refused}, declared.fault.FaultKind.TheVariants.{FailedWeekdayParse}, Names.{named, name_at, lower}, declared.weekday.Weekday.{Weekday}}
 use Rattle.zone_values.specs.declared.weekday.Weekday.TheVariants.{Sunday, Monday, Tuesday, Wednesday, Thursday, Friday, Saturday}
 
 -- Sunday is 0
@@ -13,17 +13,18 @@ weekday_number Thursday = 4
 weekday_number Friday = 5
 weekday_number Saturday = 6
 
+-- the weekdays by their English names, in order
+abbrev pub named_weekdays : List (List ℕ × Weekday)
+named_weekdays =
+    (codes "Sunday", Sunday) ∷ (codes "Monday", Monday) ∷ (codes "Tuesday", Tuesday) ∷ (codes "Wednesday", Wednesday)
+    ∷ (codes "Thursday", Thursday) ∷ (codes "Friday", Friday) ∷ (codes "Saturday", Saturday) ∷ []
+
+unfoldable pub weekday_name : Weekday → List ℕ
+weekday_name weekday = name_at named_weekdays (weekday_number weekday)
+
 -- the weekday of that English name
 unfoldable pub weekday_named : List ℕ → Option Weekday
-weekday_named text =
-    if is_name (codes "sun") (codes "sunday") text then Some Sunday
-    else if is_name (codes "mon") (codes "monday") text then Some Monday
-    else if is_name (codes "tue") (codes "tuesday") text then Some Tuesday
-    else if is_name (codes "wed") (codes "wednesday") text then Some Wednesday
-    else if is_name (codes "thu") (codes "thursday") text then Some Thursday
-    else if is_name (codes "fri") (codes "friday") text then Some Friday
-    else if is_name (codes "sat") (codes "saturday") text then Some Saturday
-    else None
+weekday_named text = named named_weekdays text
 
 -- the fault holds the text in ASCII lower case
 abbrev pub weekday_field : List ℕ → Result Weekday Fault
