@@ -8,7 +8,6 @@ mod files;
 mod folder;
 mod laws;
 mod names;
-mod no_input;
 mod refusal;
 mod respond;
 mod running;

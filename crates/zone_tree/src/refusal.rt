@@ -1,7 +1,5 @@
 //! Why a source has no archive.
 ghost use Rattle.std.specs.Prelude.{◌≡◌};
-ghost use Rattle.zone_tree.specs.Refusals.{string_word};
-ghost use Rattle.zone_tzif.specs.Asks.{fault_word};
 
 use basics::Text;
 use std::alloc::AllocError;
@@ -114,7 +112,7 @@ impl Why {
         }
     }
 
-    /// The word in a line that tells why.
+    /// The word in a line that tells why; of what comes at no zone, none.
     pub(crate) fn word(self) -> &'static str
         ensures { result.now ≡ word_of self }
     {
@@ -122,37 +120,19 @@ impl Why {
             Why::Schedule(fault) => fault.name(),
             Why::OffsetRange => "offset range",
             Why::RulesEnd => "rules end",
-            Why::String(fault) => string_word(fault),
+            Why::String(EverTailFault::Shape) => "shape",
+            Why::String(EverTailFault::OffsetRange) => "range",
+            Why::String(EverTailFault::Name) => "name",
+            Why::String(EverTailFault::NoRule) => "rule",
             Why::Format => "format",
-            Why::File(fault) => file_word(fault),
+            Why::File(WriteFault::Times) => "times",
+            Why::File(WriteFault::Types) => "types",
+            Why::File(WriteFault::Names) => "names",
             Why::Link => "link",
             Why::Name => "name",
             Why::Size => "size",
+            Why::String(EverTailFault::NoMemory)
+            | Why::File(WriteFault::Offset | WriteFault::Footer | WriteFault::NoMemory) => "",
         }
-    }
-}
-
-/// The word for what keeps a zone from having a footer for ever; for want of memory none.
-fn string_word(fault: EverTailFault) -> &'static str
-    ensures { result.now ≡ string_word fault }
-{
-    match fault {
-        EverTailFault::Shape => "shape",
-        EverTailFault::OffsetRange => "range",
-        EverTailFault::Name => "name",
-        EverTailFault::NoRule => "rule",
-        EverTailFault::NoMemory => "",
-    }
-}
-
-/// The word for what keeps a zone from having a file; of the last three, which come at no zone, none.
-fn file_word(fault: WriteFault) -> &'static str
-    ensures { result.now ≡ fault_word fault }
-{
-    match fault {
-        WriteFault::Times => "times",
-        WriteFault::Types => "types",
-        WriteFault::Names => "names",
-        WriteFault::Offset | WriteFault::Footer | WriteFault::NoMemory => "",
     }
 }

@@ -1,28 +1,12 @@
 //! The bytes that a run over a source is to write.
 ghost use Rattle.std.specs.Prelude.{◌≡◌, ◌≤◌, ◌++◌, ◌∷◌, [], length, take, IfOk};
-ghost use Rattle.zone_source.specs.Responses.{IsResponse};
-ghost use Rattle.zone_tree.specs.{Causes.{cause, due_bytes, name_line}, EverWrites.{IsEverResponse, IsFaultLine}};
+ghost use Rattle.zone_tree.specs.{Causes.{name_line}, EverWrites.{IsEverResponse, IsFaultLine}};
 
 use crate::refusal::{TreeFault, Why};
-use crate::whole::{tree, tree_for_ever};
+use crate::whole::tree_for_ever;
 use std::alloc::{AllocError, Global};
 use zone_line::LineParser;
 use zone_source::{LIMIT, Response, source_fault_bytes};
-
-/// What is due for a source.
-pub(crate) fn respond(
-    alloc: Global,
-    parser: &LineParser,
-    source: &[u8],
-) -> Result<Response, AllocError>
-    requires { length source.now ≤ LIMIT }
-    ensures { IsResponse (cause source.now) (due_bytes source.now) result }
-{
-    match tree(alloc, parser, source) {
-        Ok(bytes) => Ok(Response::Answer(bytes)),
-        Err(fault) => Ok(Response::Fault(fault_line(alloc, &fault)?)),
-    }
-}
 
 /// What is due for a source for ever.
 pub(crate) fn respond_for_ever(
@@ -40,7 +24,7 @@ pub(crate) fn respond_for_ever(
 }
 
 /// The line of a fault, with its LF.
-fn fault_line(alloc: Global, fault: &TreeFault) -> Result<Vec<u8>, AllocError>
+pub(crate) fn fault_line(alloc: Global, fault: &TreeFault) -> Result<Vec<u8>, AllocError>
     ensures { IfOk result (λ line. IsFaultLine fault.now line.items) }
 {
     match fault {

@@ -3,13 +3,13 @@ ghost use Rattle.std.specs.Prelude.{◌≡◌, ℕ, List, Some, map, option_map,
 ghost use Rattle.zone_source.specs.Runs.{seen};
 ghost use Rattle.zone_tree.specs.{Ends.{Ends}, Starts.{StartsTree}, Words.{asks_of, ever_file_in, file_asked, for_ever}};
 
-use crate::no_input::NoInput;
-use crate::respond::{respond, respond_for_ever};
+use crate::respond::{fault_line, respond_for_ever};
+use crate::whole::tree;
 use std::alloc::{AllocError, Global};
 use zone_line::LineParser;
 use zone_source::{
-    Answered, FileProgram, Response, Shelf, Sink, Source, SourceProgram, Started, Status,
-    TextAnswers, run_file, run_over, start_source_run, write_all,
+    Answered, FileProgram, FilesProgram, NoInput, Response, Shelf, Sink, Started, Status,
+    TextAnswers, run_file, run_over, start_files_run, write_all,
 };
 
 /// The first of two words, with which each zone goes on for ever.
@@ -29,7 +29,10 @@ impl FileProgram for TreeProgram {
     ghost due = { over_source.due_bytes };
 
     fn respond(alloc: Global, parser: &LineParser, source: &[u8]) -> Result<Response, AllocError> {
-        respond(alloc, parser, source)
+        match tree(alloc, parser, source) {
+            Ok(bytes) => Ok(Response::Answer(bytes)),
+            Err(fault) => Ok(Response::Fault(fault_line(alloc, &fault)?)),
+        }
     }
 }
 
@@ -121,20 +124,19 @@ fn run_for_ever<H: Shelf, O: Sink>(
     )
 }
 
-/// The program, as one over source text. It leaves the input alone.
+/// The program, as one that reads files.
 struct TreeStart;
 
-impl SourceProgram for TreeStart {
-    ghost use Rattle.zone_tree.specs.Starts.{tree_run};
+impl FilesProgram for TreeStart {
+    ghost use Rattle.zone_tree.specs.{Ends.{Ends}, Words.{asks_of}};
 
-    ghost ends = { tree_run };
+    ghost ends = { λ words. Ends (asks_of words) };
 
-    fn run<H: Shelf, I: Source, O: Sink>(
+    fn run<H: Shelf, O: Sink>(
         alloc: Global,
         parser: &LineParser,
         words: &[String],
         shelf: &mut H,
-        _input: &mut I,
         output: &mut O,
     ) -> Status {
         run_tree(alloc, parser, words, shelf, output)
@@ -146,5 +148,5 @@ impl SourceProgram for TreeStart {
 pub fn start_tree(rt: HostRuntime) -> Started
     ensures { StartsTree result }
 {
-    start_source_run::<TreeStart>(rt)
+    start_files_run::<TreeStart>(rt)
 }

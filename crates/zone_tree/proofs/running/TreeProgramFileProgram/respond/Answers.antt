@@ -1,5 +1,5 @@
 use Rattle.zone_tree.proofs.RespondLemmas.{answered, fault_due}
-use Rattle.zone_tree.proofs.respond.respond.Goals as goal
+use Rattle.zone_tree.proofs.running.TreeProgramFileProgram.respond.Goals as goal
 
 pub returns-in-Ok : goal.returns-in-Ok
 returns-in-Ok c = answered _ _ c.in-Ok.ensures.ok
