@@ -1,9 +1,10 @@
 -- What is seen of zones of any kind, and instants at the offset in force.
-use Rattle.std.{proofs.Common.{◌≡◌, ℕ, Bool, false, List, ℤ, refl, sym, ap, subst, arith}, specs.Prelude.{Some, None}, proofs.lemmas.Int.{ints}}
+use Rattle.std.{proofs.Common.{◌≡◌, ℕ, Bool, false, List, ℤ, refl, sym, ap, subst, arith}, specs.Prelude.{Option, Some, None}, proofs.lemmas.Int.{ints}}
 use Rattle.civil_base.specs.{DateTimes.{instant, local_of, offset_of}, Instants.{instant_at, local_at}, declared.offset_date_time.OffsetDateTime.{OffsetDateTime}, Ranges.{is_in_years}}
 use Rattle.tz_zone.specs.InForce.{in_force, shown_of}
 use Rattle.sefunjaro.specs.{Answered.{IsShown}, Answers.{IsAnswer}, Any.{Seen}, declared.answer.Answer.{Answer}, declared.zone.AnyZone.{AnyZone}, declared.zone.AnyZone.TheVariants.{Source, File}}
-use Rattle.sefunjaro_c.specs.Answers.{is_shown, IsShownAs, Where}
+use Rattle.sefunjaro_handles.specs.{Held.{OfZone}, declared.opened.Opened.{Opened}}
+use Rattle.sefunjaro_c.{specs.Answers.{is_shown, IsShownAs, Where}, specs.Lists.{OfPlace}, proofs.AskedLemmas.{of_zone}}
 
 -- what follows from what is seen, whatever zone it is
 pub seen_map : (zone : AnyZone) (P Q : (ℤ → ℤ) → (ℤ → List ℕ → Bool → Type 0) → Type 0)
@@ -40,3 +41,13 @@ where_answered total gives t answer old new kept h = subst (λ b. Where b 0 kept
 pub where_unanswered : (total : ℤ → ℤ) (t : ℤ) (kept P : Type 0) → is_in_years (local_at t (total t)) ≡ false → kept → Where (is_shown total t) 10 kept P
 unfolding is_shown
 where_unanswered total t kept P h k = subst (λ b. Where b 10 kept P) (sym h) (refl, k)
+
+-- what a call tells of the zone that is held, where a list is told by its places
+pub told_places : (o p : Opened) (read zone : AnyZone) (find : (ℤ → ℤ) → Option ℕ) (status place far : ℕ) (kept : Type 0) (due found : (ℤ → ℤ) → Type 0)
+    → o ≡ p → (Seen zone (λ total _. OfPlace (find total) status place far kept (due total))
+    → OfZone p status (kept × (far ≡ place)) (λ held. Seen held (λ total _. OfPlace (find total) status place far kept (due total))))
+    → ((total : ℤ → ℤ) → found total → OfPlace (find total) status place far kept (due total)) → read ≡ zone → Seen read (λ total _. found total)
+    → OfZone o status (kept × (far ≡ place)) (λ held. Seen held (λ total _. OfPlace (find total) status place far kept (due total)))
+told_places o p read zone find status place far kept due found held holds tells is seen =
+    of_zone o p status (kept × (far ≡ place)) (λ z. Seen z (λ total _. OfPlace (find total) status place far kept (due total))) held
+    (holds (seen_map zone (λ total _. found total) _ (λ total _. tells total) (subst (λ z. Seen z (λ total _. found total)) is seen)))

@@ -2,23 +2,14 @@
 use Rattle.std.proofs.Common.{◌≡◌, true, false, pos, negsuc, refl, [], ◌∷◌, Some, None}
 use Rattle.sefunjaro_c.specs.{Lists.{far_place}, Times.{is_instant}}
 
--- 10000-01-01 04:30 UTC, when clocks in New York show 23:30 on the last day of 9999
-new_york : is_instant (pos 253402317000) 0 ≡ true
-new_york = refl
-
--- 10000-01-02 01:59:59 UTC is the first instant that no clock shows with a date of 9999
-no_clock_any_more : is_instant (pos 253402394399) 0 ≡ false
-no_clock_any_more = refl
-
-a_nanosecond_before : is_instant (pos 253402394398) 999999999 ≡ true
-a_nanosecond_before = refl
+-- 10000-01-01 04:30 UTC, when clocks in New York show 23:30 on the last day of 9999; 10000-01-02 01:59:59 UTC, the first instant that no
+-- clock shows with a date of 9999, and a nanosecond before it
+last_of_all : is_instant (pos 253402317000) 0 ∷ is_instant (pos 253402394399) 0 ∷ is_instant (pos 253402394398) 999999999 ∷ [] ≡ true ∷ false ∷ true ∷ []
+last_of_all = refl
 
 -- the first instant that some clock shows with a date of the year -9999, and the last before it
-first_of_all : is_instant (negsuc 377705210398) 0 ≡ true
+first_of_all : is_instant (negsuc 377705210398) 0 ∷ is_instant (negsuc 377705210399) 999999999 ∷ [] ≡ true ∷ false ∷ []
 first_of_all = refl
-
-before_all : is_instant (negsuc 377705210399) 999999999 ≡ false
-before_all = refl
 
 -- a second has no more nanoseconds
 whole_second : is_instant (pos 0) 1000000000 ≡ false

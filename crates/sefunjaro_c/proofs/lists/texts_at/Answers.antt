@@ -1,32 +1,19 @@
-use Rattle.std.{proofs.Common.{◌≡◌, length, subst}, specs.Arc.{arc_value}, specs.Prelude.{Ok, Err}}
-use Rattle.sefunjaro.specs.{Any.{Seen}, Rooms.{filled}, Shown.{texts_of, textless_place, AreTexts}}
+use Rattle.std.{proofs.Common.{◌≡◌, length}, specs.Arc.{arc_value}, specs.Prelude.{Ok, Err}}
+use Rattle.sefunjaro.specs.{Rooms.{filled}, Shown.{texts_of, textless_place, AreTexts}}
 use Rattle.sefunjaro_handles.specs.declared.opened.Opened.TheVariants.{Zone}
-use Rattle.sefunjaro_c.{specs.Lists.{OfPlace}, proofs.AskedLemmas.{of_zone}, proofs.ListLemmas.{no_place, one_place}, proofs.ShownLemmas.{seen_map}}
+use Rattle.sefunjaro_c.proofs.{ListLemmas.{no_place, one_place}, ShownLemmas.{told_places}}
 use Rattle.sefunjaro_c.proofs.lists.texts_at.Goals as goal
 
 pub returns-in-Ok-clause-answer : goal.returns-in-Ok-clause-answer
 returns-in-Ok-clause-answer c =
-    let seconds = c.args.seconds.now in
-    let place = c.args.place.now in
-    let old = c.args.text.now in
-    let new = c.texts_at.new.room in
-    let whole = c.in-Ok.length in
-    let zone = arc_value c.in-Zone.zone in
-    of_zone c.args.opened.now (Zone c.in-Zone.zone) 0 ((new ≡ old) × (place ≡ place))
-    (λ held. Seen held (λ total _. OfPlace (textless_place total seconds) 0 place place (new ≡ old) ((new ≡ filled (texts_of total seconds) old) × (whole ≡ length (texts_of total seconds))))) c.in-Zone.is
-    (seen_map zone (λ total _. AreTexts total seconds old new (Ok whole)) _ (λ total gives h. no_place (textless_place total seconds) place _ _ h.0 h.1)
-    (subst (λ z. Seen z (λ total _. AreTexts total seconds old new (Ok whole))) c.deref.ensures c.in-Ok.ensures))
+    told_places c.args.opened.now (Zone c.in-Zone.zone) c.deref.result.now (arc_value c.in-Zone.zone) (λ total. textless_place total c.args.seconds.now) 0 c.args.place.now c.args.place.now
+    (c.texts_at.new.room ≡ c.args.text.now) (λ total. (c.texts_at.new.room ≡ filled (texts_of total c.args.seconds.now) c.args.text.now) × (c.in-Ok.length ≡ length (texts_of total c.args.seconds.now)))
+    (λ total. AreTexts total c.args.seconds.now c.args.text.now c.texts_at.new.room (Ok c.in-Ok.length)) c.in-Zone.is (λ h. h)
+    (λ total h. no_place _ _ _ _ h.0 h.1) c.deref.ensures c.in-Ok.ensures
 
 pub returns-in-Err-clause-answer : goal.returns-in-Err-clause-answer
 returns-in-Err-clause-answer c =
-    let seconds = c.args.seconds.now in
-    let place = c.args.place.now in
-    let old = c.args.text.now in
-    let new = c.texts_at.new.room in
-    let far = c.in-Err.textless in
-    let whole = c.args.whole.now in
-    let zone = arc_value c.in-Zone.zone in
-    of_zone c.args.opened.now (Zone c.in-Zone.zone) 10 ((new ≡ old) × (far ≡ place))
-    (λ held. Seen held (λ total _. OfPlace (textless_place total seconds) 10 place far (new ≡ old) ((new ≡ filled (texts_of total seconds) old) × (whole ≡ length (texts_of total seconds))))) c.in-Zone.is
-    (seen_map zone (λ total _. AreTexts total seconds old new (Err far)) _ (λ total gives h. one_place (textless_place total seconds) place far _ _ h.0 h.1)
-    (subst (λ z. Seen z (λ total _. AreTexts total seconds old new (Err far))) c.deref.ensures c.in-Err.ensures))
+    told_places c.args.opened.now (Zone c.in-Zone.zone) c.deref.result.now (arc_value c.in-Zone.zone) (λ total. textless_place total c.args.seconds.now) 10 c.args.place.now c.in-Err.textless
+    (c.texts_at.new.room ≡ c.args.text.now) (λ total. (c.texts_at.new.room ≡ filled (texts_of total c.args.seconds.now) c.args.text.now) × (c.args.whole.now ≡ length (texts_of total c.args.seconds.now)))
+    (λ total. AreTexts total c.args.seconds.now c.args.text.now c.texts_at.new.room (Err c.in-Err.textless)) c.in-Zone.is (λ h. h)
+    (λ total h. one_place _ _ _ _ _ h.0 h.1) c.deref.ensures c.in-Err.ensures
