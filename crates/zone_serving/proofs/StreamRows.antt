@@ -79,13 +79,12 @@ counted_year : IsCountedYear (pos 2024)
 counted_year = record { first = omega (arith, signed); last = omega (arith, signed) }
 
 -- 27 October and 31 March 2024
-autumn : year_of (pos 20023) ≡ pos 2024
+in_2024 : (year_of (pos 20023) ≡ pos 2024) × (year_of (pos 19813) ≡ pos 2024)
 unfolding is_leap days_in_year days_in_month days_after_zero days_before_zero year_start days_through days_into_year day
-autumn = year_of-day (pos 2024) 10 27 counted_year (record { first_month = lit≤ tt; last_month = lit≤ tt; first_day = lit≤ tt; last_day = lit≤ tt })
-
-spring : year_of (pos 19813) ≡ pos 2024
-unfolding is_leap days_in_year days_in_month days_after_zero days_before_zero year_start days_through days_into_year day
-spring = year_of-day (pos 2024) 3 31 counted_year (record { first_month = lit≤ tt; last_month = lit≤ tt; first_day = lit≤ tt; last_day = lit≤ tt })
+in_2024 = (
+  year_of-day (pos 2024) 10 27 counted_year (record { first_month = lit≤ tt; last_month = lit≤ tt; first_day = lit≤ tt; last_day = lit≤ tt }),
+  year_of-day (pos 2024) 3 31 counted_year (record { first_month = lit≤ tt; last_month = lit≤ tt; first_day = lit≤ tt; last_day = lit≤ tt }),
+)
 
 late : year_of (pos 47482) ≡ pos 2100
 unfolding is_leap days_in_year days_in_month days_after_zero days_before_zero year_start days_through days_into_year day
@@ -110,19 +109,19 @@ shown who form kind t o is years year =
 first : (who : List ℕ) (form : AnswerForm) (kind : Kind)
     → shown_due form berlin who kind (pos 1729989000000000000) ≡ Ok (instant_text form berlin who kind (pos 1729989000000000000) (pos 7200))
 unfolding winter summer in_force total_in seconds_of day_part
-first who form kind = shown who form kind (pos 1729989000000000000) (pos 7200) refl refl autumn
+first who form kind = shown who form kind (pos 1729989000000000000) (pos 7200) refl refl in_2024.0
 
 second : (who : List ℕ) (form : AnswerForm) (kind : Kind)
     → shown_due form berlin who kind (pos 1729992600000000000) ≡ Ok (instant_text form berlin who kind (pos 1729992600000000000) (pos 3600))
 unfolding winter summer in_force total_in seconds_of day_part
-second who form kind = shown who form kind (pos 1729992600000000000) (pos 3600) refl refl autumn
+second who form kind = shown who form kind (pos 1729992600000000000) (pos 3600) refl refl in_2024.0
 
 both : (form : AnswerForm) (separator : List ℕ) → local_due form berlin name separator (pos 1729996200000000000)
     ≡ Ok (instant_text form berlin name Fold (pos 1729989000000000000) (pos 7200)
     ++ ((separator ++ instant_text form berlin name Fold (pos 1729992600000000000) (pos 3600)) ++ []))
 unfolding winter summer in_force total_in instants_in berlin seconds_of day_part each_due convert_due
 both form separator =
-    (λ i. cond (ap (int_lt (pos 2099)) autumn i) (Err Untold) (followed (first name form Fold i) (followed (behind separator (second name form Fold i)) (Ok []))))
+    (λ i. cond (ap (int_lt (pos 2099)) in_2024.0 i) (Err Untold) (followed (first name form Fold i) (followed (behind separator (second name form Fold i)) (Ok []))))
 
 -- for people
 at_instant : answer People (codes " at Europe/Berlin   @1729989000 ") ≡ Ok (people_text (pos 1729996200000000000) (pos 7200) (codes "CEST"))
@@ -157,7 +156,7 @@ unfolding found name winter summer in_force total_in instants_in berlin seconds_
     moment_in local_in in_years zoned_at zoned_in size_at count_at count_in counted_in written_in instant_in asked_in
     day_part time_part value_in two_in size_in offset_in put_any put_option put_word task_in words_in fault_line
 converted_once =
-    (λ i. told (codes "-01:00") (followed (behind [] (cond (ap (int_lt (pos 9999)) autumn i) (Err Untold) (followed (second name Epoch One i) (Ok [])))) (Ok [])))
+    (λ i. told (codes "-01:00") (followed (behind [] (cond (ap (int_lt (pos 9999)) in_2024.0 i) (Err Untold) (followed (second name Epoch One i) (Ok [])))) (Ok [])))
 
 -- 2024-03-31 02:30 is skipped
 skipped : answer Epoch (codes "local Europe/Berlin 2024-03-31 02:30") ≡ Ok (codes "none: skipped at @1711846800, from +01:00 to +02:00")
@@ -167,7 +166,7 @@ unfolding found name winter summer in_force total_in instants_in changes_in berl
     moment_in local_in in_years zoned_at zoned_in size_at count_at count_in counted_in written_in instant_in asked_in
     day_part time_part value_in two_in size_in offset_in put_any put_option put_word task_in words_in fault_line
 skipped =
-    (λ i. told name (followed (behind [] (cond (ap (int_lt (pos 2099)) spring i) (Err Untold) (Ok (codes "none: skipped at @1711846800, from +01:00 to +02:00")))) (Ok [])))
+    (λ i. told name (followed (behind [] (cond (ap (int_lt (pos 2099)) in_2024.1 i) (Err Untold) (Ok (codes "none: skipped at @1711846800, from +01:00 to +02:00")))) (Ok [])))
 
 if_late : (b : Bool) (d : Due) → b ≡ true → cond b (Err Untold) d ≡ Err Untold
 if_late true d e = refl

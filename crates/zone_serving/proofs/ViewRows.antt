@@ -86,33 +86,19 @@ mark =
     line (pos 3600) (OneOff (pos 3600)) (codes "A") (Some (UntilTime (Number (pos 2000)) January (Ordinal (pos 1)) (record { 0 = Zero; 1 = Standard })))
     ∷ line (pos 0) NoSaving (codes "B") None ∷ []
 
-goes : seen (view_in (codes "u") none (codes "Test/Mark") (Some mark)) ≡ Ok (
-  pos 7200 ∷ pos 0 ∷ [],
-  force (pos 7200) (pos 3600) (codes "A") ∷ force (pos 0) (pos 0) (codes "B") ∷ [],
-  (pos 946681200 ∷ []) ∷ [] ∷ [],
-  pos 9999,
-)
-unfolding compiled_over schedule_fault_over leaves_year_over zone_lines set_of_lines_over first_span sorted_entries_over entries_from_over entries_of_over
-    next_start_over line_firings_over years_over abbreviation line_end is_in_year instant_of named_day is_leap days_in_year days_in_month days_after_zero
-    year_start days_through days_into_year day collapsed kept_of kept_with without_first totals_of goes_on front_of last_of last_goes_on total_at ever_total
-    brought_back cycles_past seconds_of settled_changes span_before window span_on again entries_before entries_from unrolled_entries
-goes = refl
-
 -- `Zone Test/Late 1:00 1:00 A 2150`, ` 0:00 - B`: a line that ends after 2099 is told to then
 abbrev late : List ZoneInfo
 late = line (pos 3600) (OneOff (pos 3600)) (codes "A") (Some (UntilYear (Number (pos 2150)))) ∷ line (pos 0) NoSaving (codes "B") None ∷ []
 
-ends : seen (view_in (codes "u") none (codes "Test/Late") (Some late)) ≡ Ok (
-  pos 7200 ∷ pos 7200 ∷ [],
-  force (pos 7200) (pos 3600) (codes "A") ∷ force (pos 7200) (pos 3600) (codes "A") ∷ [],
-  [] ∷ [] ∷ [],
-  pos 2099,
-)
+goes_and_ends : (seen (view_in (codes "u") none (codes "Test/Mark") (Some mark))
+    ≡ Ok (pos 7200 ∷ pos 0 ∷ [], force (pos 7200) (pos 3600) (codes "A") ∷ force (pos 0) (pos 0) (codes "B") ∷ [], (pos 946681200 ∷ []) ∷ [] ∷ [], pos 9999))
+    × (seen (view_in (codes "u") none (codes "Test/Late") (Some late))
+    ≡ Ok (pos 7200 ∷ pos 7200 ∷ [], force (pos 7200) (pos 3600) (codes "A") ∷ force (pos 7200) (pos 3600) (codes "A") ∷ [], [] ∷ [] ∷ [], pos 2099))
 unfolding compiled_over schedule_fault_over leaves_year_over zone_lines set_of_lines_over first_span sorted_entries_over entries_from_over entries_of_over
     next_start_over line_firings_over years_over abbreviation line_end is_in_year instant_of named_day is_leap days_in_year days_in_month days_after_zero
     year_start days_through days_into_year day collapsed kept_of kept_with without_first totals_of goes_on front_of last_of last_goes_on total_at ever_total
     brought_back cycles_past seconds_of settled_changes span_before window span_on again entries_before entries_from unrolled_entries
-ends = refl
+goes_and_ends = (refl, refl)
 
 -- no zone, no schedule, and an offset of 26 hours or a second less
 abbrev far : ℤ → spans.FixedTimespanSet
