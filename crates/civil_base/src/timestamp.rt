@@ -9,7 +9,7 @@ use std::marker::Model;
 /// An instant whose UTC date lies in the years -9999 to 9999. Contracts see the nanoseconds from 1970-01-01 00:00:00 UTC.
 #[derive(Clone, Copy, Debug, PartialEq, Eq, PartialOrd, Ord, Hash)]
 pub struct Timestamp {
-    nanos: i128,
+    utc: PlainDateTime,
 }
 
 impl Model for Timestamp {
@@ -18,16 +18,18 @@ impl Model for Timestamp {
 
     ghost Value = { ℤ };
 
-    ghost view = { λ value. value.nanos };
+    ghost view = { λ value. value.utc };
 
-    ghost invariant = { λ value. IsInYears value.nanos };
+    ghost invariant = { λ value. IsInYears value.utc };
 
-    ghost inverse = { λ nanos. record { nanos = nanos } };
+    ghost inverse = { λ nanos. record { utc = nanos } };
 }
 
 impl Timestamp {
     /// 1970-01-01 00:00:00 UTC.
-    pub const UNIX_EPOCH: Timestamp = Timestamp { nanos: 0 };
+    pub const UNIX_EPOCH: Timestamp = Timestamp {
+        utc: PlainDateTime::UNIX_EPOCH,
+    };
 
     /// The instant that many seconds and nanoseconds after 1970-01-01 00:00:00 UTC.
     ///
@@ -80,10 +82,8 @@ impl Timestamp {
         ensures accepts { is_ok result ≡ is_in_years nanoseconds }
         ensures value { IfOk result (λ value. value ≡ nanoseconds) }
     {
-        let local = PlainDateTime::at_nanos(nanoseconds).ok_or(ComponentRange)?;
-        Ok(Timestamp {
-            nanos: local.nanos(),
-        })
+        let utc = PlainDateTime::at_nanos(nanoseconds).ok_or(ComponentRange)?;
+        Ok(Timestamp { utc })
     }
 
     /// The nanoseconds from 1970-01-01 00:00:00 UTC.
@@ -92,6 +92,6 @@ impl Timestamp {
         ensures bound { unsigned_abs result ≤ far_seconds * 1000000000 }
         ensures years { IsInYears result }
     {
-        self.nanos
+        self.utc.nanos()
     }
 }

@@ -9,7 +9,7 @@ use std::marker::Model;
 /// A date and a time of day at UTC. Contracts see the nanoseconds from 1970-01-01 00:00:00 UTC.
 #[derive(Clone, Copy, Debug, PartialEq, Eq, PartialOrd, Ord, Hash)]
 pub struct UtcDateTime {
-    nanos: i128,
+    utc: PlainDateTime,
 }
 
 impl Model for UtcDateTime {
@@ -18,25 +18,25 @@ impl Model for UtcDateTime {
 
     ghost Value = { ℤ };
 
-    ghost view = { λ value. value.nanos };
+    ghost view = { λ value. value.utc };
 
-    ghost invariant = { λ value. IsInYears value.nanos };
+    ghost invariant = { λ value. IsInYears value.utc };
 
-    ghost inverse = { λ nanos. record { nanos = nanos } };
+    ghost inverse = { λ nanos. record { utc = nanos } };
 }
 
 impl UtcDateTime {
     /// 1970-01-01 00:00:00.
-    pub const UNIX_EPOCH: UtcDateTime = UtcDateTime { nanos: 0 };
+    pub const UNIX_EPOCH: UtcDateTime = UtcDateTime {
+        utc: PlainDateTime::UNIX_EPOCH,
+    };
 
     /// That date and time.
     pub fn new(date: Date, time: Time) -> UtcDateTime
         ensures { result ≡ date *ℤ pos nanos_per_day +ℤ pos time }
     {
-        let local = PlainDateTime::new(date, time);
-        UtcDateTime {
-            nanos: local.nanos(),
-        }
+        let utc = PlainDateTime::new(date, time);
+        UtcDateTime { utc }
     }
 
     /// The instant that many seconds after 1970-01-01 00:00:00.
@@ -60,10 +60,8 @@ impl UtcDateTime {
         ensures accepts { is_ok result ≡ is_in_years timestamp }
         ensures value { IfOk result (λ value. value ≡ timestamp) }
     {
-        let local = PlainDateTime::at_nanos(timestamp).ok_or(ComponentRange)?;
-        Ok(UtcDateTime {
-            nanos: local.nanos(),
-        })
+        let utc = PlainDateTime::at_nanos(timestamp).ok_or(ComponentRange)?;
+        Ok(UtcDateTime { utc })
     }
 
     /// The nanoseconds from 1970-01-01 00:00:00.
@@ -72,7 +70,7 @@ impl UtcDateTime {
         ensures bound { unsigned_abs result ≤ far_seconds * 1000000000 }
         ensures years { IsInYears result }
     {
-        self.nanos
+        self.utc.nanos()
     }
 
     /// The whole seconds from 1970-01-01 00:00:00, rounded down.

@@ -5,5 +5,5 @@ use Rattle.civil_base.proofs.utc_date_time.UtcDateTime.unix_timestamp_nanos.Goal
 
 pub returns-clause-bound : goal.returns-clause-bound
 returns-clause-bound c =
-    let fits : FitsSigned w128 c.self.inside.nanos = search rules in
-    rw (to_z-of_z fits) (years_near c.self.inside.nanos c.self.invariant)
+    let fits : FitsSigned w128 c.nanos.result = search rules in
+    rw (to_z-of_z fits) (years_near c.nanos.result c.nanos.ensures.bound)
