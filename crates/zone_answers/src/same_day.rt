@@ -53,25 +53,9 @@ impl<'r> SameDay<'r> {
             → shown.now ≡ answer_text (shown_at (Z.total_at zone.now) (asked request.now)) → ((t : ℤ) → IsOffset (Z.total_at zone.now t))
             → IsSameDay names day.front.now day.from day.until day.begins day.line) }
     {
-        if begins_alike(before, text.as_bytes()) {
-            SameDay::of(zone, text, request, shown)
-        } else {
-            None
+        if !begins_alike(before, text.as_bytes()) {
+            return None;
         }
-    }
-
-    /// The same whatever the request before.
-    fn of<Z: OpenedZone>(
-        zone: &Z,
-        text: &'r str,
-        request: &Request<'_>,
-        shown: &[u8],
-    ) -> Option<SameDay<'r>>
-        ensures { IfSome result (λ day. (names : List ℕ → Found) → Asks request_of text.now (asked request.now)
-            → names (name_of (asked request.now)) ≡ Ok (Z.total_at zone.now)
-            → shown.now ≡ answer_text (shown_at (Z.total_at zone.now) (asked request.now)) → ((t : ℤ) → IsOffset (Z.total_at zone.now t))
-            → IsSameDay names day.front.now day.from day.until day.begins day.line) }
-    {
         let Request::At(_, nanoseconds) = request else {
             return None;
         };

@@ -4,7 +4,7 @@ use Rattle.std.specs.{Str.{IsUtf8}, Str.Parse.{digits_value}}
 use Rattle.civil_base.specs.Ranges.{IsOffset}
 use Rattle.zone_answers.specs.{Asked.{asked}, AskedLaws.{Asks}, Due.{answer_text, shown_at}, Found.{Found}, Requests.{name_of, request_of}, SameDays.{AreLast, IsSameDay}}
 use Rattle.zone_answers.proofs.SameDayLemmas.{asked_is, same_day}
-use Rattle.zone_answers.proofs.same_day.SameDay.of.Goals as goal
+use Rattle.zone_answers.proofs.same_day.SameDay.after.Goals as goal
 
 pub overflow_sub-base : goal.overflow_sub-base
 overflow_sub-base g c = omega (arith, c.in_ok-number.ensures.bound, c.in_ok-now.ensures.1)
@@ -24,7 +24,7 @@ returns g c =
     let utf8 : IsUtf8 front = search rules in
     let cut : front ++ last ≡ text =
     (λ i. c.in_ok-front.ensures.front i ++ c.in_ok-front.ensures.back i) ∙ take-append-drop c.in_ok-checked_sub.field-0 text in
-    let bytes = c.as_bytes.ensures.value in
+    let bytes = c.as_bytes-2.ensures.value in
     let digits = c.in_ok-number.ensures.some in
     let based : now - number + number ≡ now = omega (arith, c.in_ok-number.ensures.bound, c.in_ok-now.ensures.1) in
     subst (λ r. (names : List ℕ → Found) → Asks request_of text (asked r) → names (name_of (asked r)) ≡ Ok total
