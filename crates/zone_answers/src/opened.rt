@@ -191,7 +191,11 @@ impl<'t, 'r, Z: OpenedZone> Zones<'t, 'r, Z> {
         ensures opened { AreOpened Z.OpenedZone self.new }
     {
         self.before = text.as_bytes();
-        self.day = day;
+        match day {
+            Some(_) => self.day = day,
+            // A day is large, and mostly there is none.
+            None => self.day = None,
+        }
     }
 
     /// Opens the zone that the nth request names, or finds it where another name opened it, and answers where it stands.

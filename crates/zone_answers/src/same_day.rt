@@ -53,7 +53,7 @@ impl<'r> SameDay<'r> {
             → shown.now ≡ answer_text (shown_at (Z.total_at zone.now) (asked request.now)) → ((t : ℤ) → IsOffset (Z.total_at zone.now t))
             → IsSameDay names day.front.now day.from day.until day.begins day.line) }
     {
-        if !begins_alike(before, text.as_bytes()) {
+        if !are_alike(before, text.as_bytes()) {
             return None;
         }
         let Request::At(_, nanoseconds) = request else {
@@ -98,12 +98,14 @@ impl<'r> SameDay<'r> {
     }
 }
 
-/// Whether a request begins with all but the last digits of another that is as long.
-fn begins_alike(one: &[u8], other: &[u8]) -> bool {
-    match one.len().checked_sub(LAST) {
-        Some(end) => one.len() == other.len() && one[..end] == other[..end],
-        None => false,
+/// Whether two requests may differ in the last digits alone.
+fn are_alike(one: &[u8], other: &[u8]) -> bool {
+    if one.len() != other.len() || one.len() <= LAST {
+        return false;
     }
+    let end = one.len() - LAST;
+    // Those that differ before the last digits mostly differ here.
+    one[end - 1] == other[end - 1] && one[..end] == other[..end]
 }
 
 /// A line with another time of day.
