@@ -1,6 +1,6 @@
 -- What answers requests for instants of one local day at one offset.
-use Rattle.std.proofs.{Common.{◌≡◌, ℕ, ◌+◌, ◌-◌, ◌*◌, ◌^◌, ◌%◌, ◌<◌, ◌≤◌, true, cond, List, [], ◌∷◌, ◌++◌, length, Some, None, Result, Ok, Err, ℤ, pos, ◌+ℤ◌, ◌-ℤ◌, ◌*ℤ◌, ◌≤ℤ◌, ◌<ℤ◌, sym, ap, ◌∙◌, subst, arith}, lemmas.Bool.{and_from, true≢false}, lemmas.Int.{ints}, lemmas.List.{append-nil}, lemmas.Str.{IsUtf8-append, IsUtf8-from_ascii, is_utf8-from_IsUtf8}, lemmas.Fmt.{IsAscii-from_digits}}
-use Rattle.std.specs.{Char.{is_digit}, Result.{is_ok, OnOk}, Str.{IsUtf8}, Str.Parse.{digits_value}}
+use Rattle.std.proofs.{Common.{◌≡◌, ℕ, ◌+◌, ◌-◌, ◌*◌, ◌^◌, ◌%◌, ◌<◌, ◌≤◌, true, cond, List, [], ◌∷◌, ◌++◌, length, Some, None, Ok, ℤ, pos, ◌+ℤ◌, ◌-ℤ◌, ◌*ℤ◌, ◌≤ℤ◌, ◌<ℤ◌, sym, ap, ◌∙◌, subst, arith}, lemmas.Bool.{and_from}, lemmas.Int.{ints}, lemmas.List.{append-nil}, lemmas.Str.{IsUtf8-append, IsUtf8-from_ascii, is_utf8-from_IsUtf8}, lemmas.Fmt.{IsAscii-from_digits}}
+use Rattle.std.specs.{Char.{is_digit}, Str.{IsUtf8}, Str.Parse.{digits_value}}
 use Rattle.basics.specs.SignedLaws.{signed}
 use Rattle.civil_base.specs.{Clock.{nanos_per_day}, Instants.{local_at, nanos_of, seconds_of}, Layout.{time_part, zoned_text}, RangeLaws.{offset_least, offset_greatest, years_between}, Ranges.{IsOffset}}
 use Rattle.zone_spans.specs.Schedules.{Schedule, total_at}
@@ -108,8 +108,3 @@ asked_is names total front end name text shown line n now is cut asks utf8 digit
   line = same ∙ told ∙ append-nil (zoned_text n (total n)) ∙ ap (λ m. zoned_text m (total m)) is;
   long = ap length same ∙ long;
 }
-
--- what holds where there is a value
-pub on_ok_is : {T E P : Type 0} (r : Result T E) → is_ok r ≡ true → OnOk r P → P
-on_ok_is (Ok x) is there = there
-on_ok_is (Err e) is there = absurd (true≢false (sym is))

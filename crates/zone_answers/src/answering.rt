@@ -156,12 +156,10 @@ fn answer_anew<'r, Z: OpenedZone>(
     };
     let place = zones.place_of(spelled.request.name(), number)?;
     let zone = zones.zone_at(place);
-    let shown = show_line(zone, &spelled, number, text);
-    if shown.is_ok() {
-        let day = SameDay::after(zones.before, zone, asked, &spelled.request, text);
-        zones.keep(asked, day);
-    }
-    shown
+    show_line(zone, &spelled, number, text)?;
+    let day = SameDay::after(zones.before, zone, asked, &spelled.request, text);
+    zones.keep(asked, day);
+    Ok(())
 }
 
 /// Puts the line of the nth request at a zone into the text, in place of what is there.

@@ -1,6 +1,6 @@
-use Rattle.std.proofs.{Common.{◌≡◌, cond, None, Ok, Some, subst, sym, ap, ◌∙◌}, lemmas.Option.{IfSome_then}, lemmas.Result.{err_from_is_err_and, on_ok_weaker}}
+use Rattle.std.proofs.{Common.{◌≡◌, cond, None, Ok, Some, subst, sym, ap, ◌∙◌}, lemmas.Option.{IfSome_then}, lemmas.Result.{err_from_is_err_and}}
 use Rattle.zone_answers.specs.{Asked.{asked}, AskedLaws.{Asks, asks}, Faults.{range}, Found.{found_in_table}, Opened.{IsOpened, table_of}, Requests.{name_of, request_of}}
-use Rattle.zone_answers.proofs.{ReadBackLemmas.{line_back}, RefusalLemmas.{not_text_refused, bad_request_refused, refusal_is, dates_are, line_is, zone_refused}, SameDayLemmas.{on_ok_is}, ZoneLemmas.{placed_there, placed_within}}
+use Rattle.zone_answers.proofs.{ReadBackLemmas.{line_back}, RefusalLemmas.{not_text_refused, bad_request_refused, refusal_is, dates_are, line_is, zone_refused}, ZoneLemmas.{placed_there, placed_within}}
 use Rattle.zone_answers.proofs.answering.answer_anew.Goals as goal
 
 pub returns-in_default-clause-err : goal.returns-in_default-clause-err
@@ -23,44 +23,44 @@ returns-in_err-place-clause-err g c =
 pub zone_at-zone-requires : goal.zone_at-zone-requires
 zone_at-zone-requires g c = placed_within _ c.place_of.new.self.opened c.in_ok-place.place c.in_ok-place.ensures.placed
 
-pub returns-then-is_ok-clause-accepted : goal.returns-then-is_ok-clause-accepted
-returns-then-is_ok-clause-accepted g c =
+pub returns-clause-accepted : goal.returns-clause-accepted
+returns-clause-accepted g c =
     let text = c.in-Some.ensures.text in
     let request = c.in-Some-read.spelled.request in
     let reads = asks request_of c.args.line.now c.in-Some.asked.now (asked request) text.1 text.0 c.in-Some-read.ensures.read in
     let there = placed_there _ c.place_of.new.self.opened c.in_ok-place.place _ c.zone_at-zone.ensures c.in_ok-place.ensures.placed in
     let found = rw c.name.ensures at there in
-    on_ok_weaker c.show_line-shown.result (λ dates. dates_are (found_in_table g.Z.OpenedZone.read (table_of c.args.zones.now)) c.args.number c.args.line.now (asked request) _
-    reads found ∙ ap (λ b. cond b None (Some (range c.args.number))) dates) c.show_line-shown.ensures.dates
+    dates_are (found_in_table g.Z.OpenedZone.read (table_of c.args.zones.now)) c.args.number c.args.line.now (asked request) _
+    reads found ∙ ap (λ b. cond b None (Some (range c.args.number))) c.in_ok-show_line.ensures.dates
 
-pub returns-then-is_ok-clause-text : goal.returns-then-is_ok-clause-text
-returns-then-is_ok-clause-text g c =
+pub returns-clause-text : goal.returns-clause-text
+returns-clause-text g c =
     let text = c.in-Some.ensures.text in
     let request = c.in-Some-read.spelled.request in
     let reads = asks request_of c.args.line.now c.in-Some.asked.now (asked request) text.1 text.0 c.in-Some-read.ensures.read in
     let there = placed_there _ c.place_of.new.self.opened c.in_ok-place.place _ c.zone_at-zone.ensures c.in_ok-place.ensures.placed in
     let found = rw c.name.ensures at there in
-    on_ok_weaker c.show_line-shown.result (λ text. text ∙ sym (line_is (found_in_table g.Z.OpenedZone.read (table_of c.args.zones.now)) c.args.line.now (asked request) _ reads found))
-    c.show_line-shown.ensures.text
+    c.in_ok-show_line.ensures.text ∙ sym (line_is (found_in_table g.Z.OpenedZone.read (table_of c.args.zones.now)) c.args.line.now (asked request) _ reads found)
 
-pub returns-then-is_ok-clause-read_back : goal.returns-then-is_ok-clause-read_back
-returns-then-is_ok-clause-read_back g c =
+pub returns-clause-read_back : goal.returns-clause-read_back
+returns-clause-read_back g c =
     let text = c.in-Some.ensures.text in
     let request = c.in-Some-read.spelled.request in
     let reads = asks request_of c.args.line.now c.in-Some.asked.now (asked request) text.1 text.0 c.in-Some-read.ensures.read in
     let there = placed_there _ c.place_of.new.self.opened c.in_ok-place.place _ c.zone_at-zone.ensures c.in_ok-place.ensures.placed in
     let found = rw c.name.ensures at there in
-    on_ok_weaker c.show_line-shown.result (line_back (found_in_table g.Z.OpenedZone.read (table_of c.args.zones.now)) c.args.line.now (asked request) _ reads found
-    c.show_line-shown.ensures.range) c.show_line-shown.ensures.dates
+    line_back (found_in_table g.Z.OpenedZone.read (table_of c.args.zones.now)) c.args.line.now (asked request) _ reads found
+    c.show_line.ensures.range c.in_ok-show_line.ensures.dates
 
-pub returns-else-is_ok-clause-err : goal.returns-else-is_ok-clause-err
-returns-else-is_ok-clause-err g c =
+pub returns-in_err-show_line-clause-err : goal.returns-in_err-show_line-clause-err
+returns-in_err-show_line-clause-err g c =
     let text = c.in-Some.ensures.text in
     let request = c.in-Some-read.spelled.request in
     let reads = asks request_of c.args.line.now c.in-Some.asked.now (asked request) text.1 text.0 c.in-Some-read.ensures.read in
     let there = placed_there _ c.place_of.new.self.opened c.in_ok-place.place _ c.zone_at-zone.ensures c.in_ok-place.ensures.placed in
     let found = rw c.name.ensures at there in
-    rw (dates_are (found_in_table g.Z.OpenedZone.read (table_of c.args.zones.now)) c.args.number c.args.line.now (asked request) _ reads found) c.show_line-shown.ensures.err
+    let error = err_from_is_err_and c.from_residual-in_err-show_line.result c.from_residual-in_err-show_line.ensures.1 in
+    rw (dates_are (found_in_table g.Z.OpenedZone.read (table_of c.args.zones.now)) c.args.number c.args.line.now (asked request) _ reads found, error.1, error.2) c.in_err-show_line.ensures.err
 
 -- what is kept of the day, where the line was shown
 pub keep-requires-clause-day : goal.keep-requires-clause-day
@@ -74,4 +74,4 @@ keep-requires-clause-day g c =
     IfSome_then c.after-day.result c.after-day.ensures (λ day law.
     law (found_in_table read (table_of c.place_of.new.self)) (subst (λ t. Asks request_of t (asked request)) (sym text.0) reads)
     (subst (λ table. found_in_table read table (name_of (asked request)) ≡ Ok (g.Z.OpenedZone.total_at c.zone_at-zone.result.now)) (sym c.in_ok-place.ensures.same) found)
-    (c.deref.ensures.value ∙ on_ok_is c.show_line-shown.result (sym c.if-is_ok.ensures.value) c.show_line-shown.ensures.text) c.show_line-shown.ensures.range)
+    (c.deref.ensures.value ∙ c.in_ok-show_line.ensures.text) c.show_line.ensures.range)
