@@ -6,6 +6,9 @@ use Rattle.zone_words.specs.declared.sorted.{Expected.TheVariants.{Any, Behind, 
 abbrev pub word_shown : Bor (List ℕ) → List ℕ
 word_shown word = word.now
 
+abbrev pub row_shown : {A : Type 0} → Bor (List ℕ) × A → List ℕ × A
+row_shown row = (row.0.now, row.1)
+
 abbrev pub given_shown : Given → GivenOption
 given_shown option = (option.name.now, option.value.now)
 

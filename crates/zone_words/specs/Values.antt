@@ -59,13 +59,17 @@ abbrev pub instants_in : List (Option ℤ) → List (List ℕ) → Reading (List
 instants_in found [] = Ok found
 instants_in found (word ∷ words) = instant_in word >>= (λ t. instants_in (found ++ t ∷ []) words)
 
+-- a number of 16 bits in ASCII digits
+abbrev pub digits_in : List ℕ → Option ℕ
+digits_in word = if is_numeral word then value_in 16 word else None
+
 abbrev pub from_one : Option ℕ → Option ℕ
 from_one (Some number) = if nat_lt 0 number then Some number else None
 from_one None = None
 
 -- a number from 1 to 65,535 in ASCII digits
 unfoldable pub number_of : List ℕ → Option ℕ
-number_of word = if is_numeral word then from_one (value_in 16 word) else None
+number_of word = from_one (digits_in word)
 
 abbrev pub number_in : List ℕ → Reading ℕ
 number_in word = option_map_or (λ number. Ok number) (number_of word) (wrong word Number)
@@ -76,7 +80,7 @@ up_to_9999 None = None
 
 -- a year in ASCII digits
 unfoldable pub year_of : List ℕ → Option ℕ
-year_of word = if is_numeral word then up_to_9999 (value_in 16 word) else None
+year_of word = up_to_9999 (digits_in word)
 
 abbrev pub year_in : List ℕ → Reading ℕ
 year_in word = option_map_or (λ year. Ok year) (year_of word) (wrong word Year)

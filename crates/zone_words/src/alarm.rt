@@ -1,14 +1,27 @@
 //! The words of an alarm.
 ghost use Rattle.std.specs.Prelude.{◌≡◌, map, option_map};
-ghost use Rattle.zone_words.specs.{Alarms.{alarm_in, are_days, days_in, ending_in, days_of, every_in, first_in, fold_in, fold_rule, gap_in, gap_rule, has_day, is_day, last_in, ringing_in, until_in}, Shown.{given_shown, word_shown}, TaskShown.{alarm_shown}};
+ghost use Rattle.zone_words.specs.{Alarms.{alarm_in, are_days, chosen, days_in, ending_in, days_of, every_in, first_in, fold_in, gap_in, has_day, is_day, last_in, ringing_in, until_in}, Commands.{standing_for}, Shown.{given_shown, row_shown, word_shown}, TaskShown.{alarm_shown}};
 ghost use Rattle.zone_words.specs.Told.{Reads};
 
+use crate::command::standing_for;
 use crate::given::{Given, value_of};
 use crate::task::{Alarm, FoldRule, GapRule};
 use crate::values::{date_in, number_in, number_told, time_in};
-use crate::{WordCause, WordFault};
+use crate::{Reading, WordCause, WordFault};
 use civil_base::{Date, Time};
 use std::alloc::Global;
+
+const GAP_RULES: [(&str, GapRule); 3] = [
+    ("skip", GapRule::Skip),
+    ("before", GapRule::Before),
+    ("after", GapRule::After),
+];
+
+const FOLD_RULES: [(&str, FoldRule); 3] = [
+    ("first", FoldRule::First),
+    ("second", FoldRule::Second),
+    ("both", FoldRule::Both),
+];
 
 /// Whether a text is a weekday's name in three letters.
 fn is_day(text: &[u8]) -> bool
@@ -53,7 +66,7 @@ fn days_of(text: &[u8]) -> [bool; 7]
 }
 
 /// On which weekdays it rings; on all where none are told.
-fn days_in<'w>(given: &[Given<'w>]) -> Result<[bool; 7], WordFault<'w>>
+fn days_in<'w>(given: &[Given<'w>]) -> Reading<'w, [bool; 7]>
     ensures { Reads (λ days. days) result (days_in (map given_shown given.now)) }
 {
     match value_of(given, "--on") {
@@ -68,7 +81,7 @@ fn days_in<'w>(given: &[Given<'w>]) -> Result<[bool; 7], WordFault<'w>>
     }
 }
 
-fn first_in<'w>(alloc: Global, command: &'w str, given: &[Given<'w>]) -> Result<Date, WordFault<'w>>
+fn first_in<'w>(alloc: Global, command: &'w str, given: &[Given<'w>]) -> Reading<'w, Date>
     ensures { Reads (λ date. date) result (first_in command.now (map given_shown given.now)) }
 {
     match value_of(given, "--from") {
@@ -78,7 +91,7 @@ fn first_in<'w>(alloc: Global, command: &'w str, given: &[Given<'w>]) -> Result<
 }
 
 /// A last day, which doesn't come before the first.
-fn last_in<'w>(alloc: Global, first: Date, word: &'w str) -> Result<Date, WordFault<'w>>
+fn last_in<'w>(alloc: Global, first: Date, word: &'w str) -> Reading<'w, Date>
     ensures { Reads (λ date. date) result (last_in first word.now) }
 {
     let last = date_in(alloc, word)?;
@@ -89,11 +102,7 @@ fn last_in<'w>(alloc: Global, first: Date, word: &'w str) -> Result<Date, WordFa
 }
 
 /// The last day, where that is told.
-fn until_in<'w>(
-    alloc: Global,
-    first: Date,
-    given: &[Given<'w>],
-) -> Result<Option<Date>, WordFault<'w>>
+fn until_in<'w>(alloc: Global, first: Date, given: &[Given<'w>]) -> Reading<'w, Option<Date>>
     ensures { Reads (λ date. date) result (until_in first (map given_shown given.now)) }
 {
     match value_of(given, "--until") {
@@ -103,7 +112,7 @@ fn until_in<'w>(
 }
 
 /// So many days from each day to the next; 1 where that isn't told.
-fn every_in<'w>(given: &[Given<'w>]) -> Result<u16, WordFault<'w>>
+fn every_in<'w>(given: &[Given<'w>]) -> Reading<'w, u16>
     ensures { Reads (λ days. days) result (every_in (map given_shown given.now)) }
 {
     match value_of(given, "--every") {
@@ -112,44 +121,34 @@ fn every_in<'w>(given: &[Given<'w>]) -> Result<u16, WordFault<'w>>
     }
 }
 
-fn gap_rule(word: &str) -> Option<GapRule>
-    ensures { result ≡ gap_rule word.now }
+/// What the word of an option stands for by the rows, or what holds where it isn't told.
+fn chosen<'w, T: Copy>(
+    word: Option<&'w str>,
+    rows: &[(&str, T)],
+    cause: WordCause,
+    default: T,
+) -> Reading<'w, T>
+    ensures { Reads (λ value. value) result
+        (chosen (standing_for (map row_shown rows.now)) cause default (option_map word_shown word.entry)) }
 {
     match word {
-        "skip" => Some(GapRule::Skip),
-        "before" => Some(GapRule::Before),
-        "after" => Some(GapRule::After),
-        _ => None,
+        None => Ok(default),
+        Some(word) => standing_for(rows, word).ok_or(WordFault::of(word, cause)),
     }
 }
 
-fn gap_in<'w>(given: &[Given<'w>]) -> Result<GapRule, WordFault<'w>>
+fn gap_in<'w>(given: &[Given<'w>]) -> Reading<'w, GapRule>
     ensures { Reads (λ rule. rule) result (gap_in (map given_shown given.now)) }
 {
-    match value_of(given, "--gap") {
-        None => Ok(GapRule::Skip),
-        Some(word) => gap_rule(word).ok_or(WordFault::of(word, WordCause::GapRule)),
-    }
+    let word = value_of(given, "--gap");
+    chosen(word, &GAP_RULES, WordCause::GapRule, GapRule::Skip)
 }
 
-fn fold_rule(word: &str) -> Option<FoldRule>
-    ensures { result ≡ fold_rule word.now }
-{
-    match word {
-        "first" => Some(FoldRule::First),
-        "second" => Some(FoldRule::Second),
-        "both" => Some(FoldRule::Both),
-        _ => None,
-    }
-}
-
-fn fold_in<'w>(given: &[Given<'w>]) -> Result<FoldRule, WordFault<'w>>
+fn fold_in<'w>(given: &[Given<'w>]) -> Reading<'w, FoldRule>
     ensures { Reads (λ rule. rule) result (fold_in (map given_shown given.now)) }
 {
-    match value_of(given, "--fold") {
-        None => Ok(FoldRule::First),
-        Some(word) => fold_rule(word).ok_or(WordFault::of(word, WordCause::FoldRule)),
-    }
+    let word = value_of(given, "--fold");
+    chosen(word, &FOLD_RULES, WordCause::FoldRule, FoldRule::First)
 }
 
 /// The alarm of a time of day and the options.
@@ -158,7 +157,7 @@ pub(crate) fn alarm_in<'w>(
     command: &'w str,
     time: &'w str,
     given: &[Given<'w>],
-) -> Result<Alarm, WordFault<'w>>
+) -> Reading<'w, Alarm>
     ensures { Reads alarm_shown result (alarm_in command.now time.now (map given_shown given.now)) }
 {
     let time = time_in(alloc, time)?;
@@ -173,7 +172,7 @@ fn ending_in<'w>(
     time: Time,
     first: Date,
     given: &[Given<'w>],
-) -> Result<Alarm, WordFault<'w>>
+) -> Reading<'w, Alarm>
     ensures { Reads alarm_shown result (ending_in command.now time first (map given_shown given.now)) }
 {
     let count = number_told(given, "--count")?;
@@ -191,7 +190,7 @@ fn ringing_in<'w>(
     count: Option<u16>,
     until: Option<Date>,
     given: &[Given<'w>],
-) -> Result<Alarm, WordFault<'w>>
+) -> Reading<'w, Alarm>
     ensures { Reads alarm_shown result (ringing_in time first count until (map given_shown given.now)) }
 {
     let every = every_in(given)?;

@@ -6,11 +6,11 @@ use crate::alarm::alarm_in;
 use crate::given::{Given, has};
 use crate::task::Task;
 use crate::values::{instant_in, instants_in, number_told, text_in, year_in};
-use crate::{Command, WordCause, WordFault};
+use crate::{Command, Reading, WordCause, WordFault};
 use std::alloc::Global;
 
 /// What is asked where no word stands behind the command.
-fn alone<'w>(words: &[&'w str], task: Task<'w>) -> Result<Task<'w>, WordFault<'w>>
+fn alone<'w>(words: &[&'w str], task: Task<'w>) -> Reading<'w, Task<'w>>
     ensures { Reads task_shown result (alone (map word_shown words.now) (task_shown task.entry)) }
 {
     match words {
@@ -20,7 +20,7 @@ fn alone<'w>(words: &[&'w str], task: Task<'w>) -> Result<Task<'w>, WordFault<'w
 }
 
 /// A word, or none.
-fn maybe_in<'w>(words: &[&'w str]) -> Result<Option<&'w str>, WordFault<'w>>
+fn maybe_in<'w>(words: &[&'w str]) -> Reading<'w, Option<&'w str>>
     ensures { Reads (λ word. option_map word_shown word) result (maybe_in (map word_shown words.now)) }
 {
     match words {
@@ -31,7 +31,7 @@ fn maybe_in<'w>(words: &[&'w str]) -> Result<Option<&'w str>, WordFault<'w>>
 }
 
 /// One word.
-fn one_in<'w>(command: &'w str, words: &[&'w str]) -> Result<&'w str, WordFault<'w>>
+fn one_in<'w>(command: &'w str, words: &[&'w str]) -> Reading<'w, &'w str>
     ensures { Reads word_shown result (one_in command.now (map word_shown words.now)) }
 {
     match words {
@@ -42,7 +42,7 @@ fn one_in<'w>(command: &'w str, words: &[&'w str]) -> Result<&'w str, WordFault<
 }
 
 /// Two words.
-fn two_in<'w>(command: &'w str, words: &[&'w str]) -> Result<(&'w str, &'w str), WordFault<'w>>
+fn two_in<'w>(command: &'w str, words: &[&'w str]) -> Reading<'w, (&'w str, &'w str)>
     ensures { Reads (λ both. (both.0.now, both.1.now)) result (two_in command.now (map word_shown words.now)) }
 {
     match words {
@@ -54,7 +54,7 @@ fn two_in<'w>(command: &'w str, words: &[&'w str]) -> Result<(&'w str, &'w str),
 }
 
 /// A zone and instants, of which there is one at least.
-fn at_in<'w>(alloc: Global, command: &'w str, words: &[&'w str]) -> Result<Task<'w>, WordFault<'w>>
+fn at_in<'w>(alloc: Global, command: &'w str, words: &[&'w str]) -> Reading<'w, Task<'w>>
     ensures { Reads task_shown result (at_in command.now (map word_shown words.now)) }
 {
     match words {
@@ -65,11 +65,7 @@ fn at_in<'w>(alloc: Global, command: &'w str, words: &[&'w str]) -> Result<Task<
 }
 
 /// A zone and a local time.
-fn local_in<'w>(
-    alloc: Global,
-    command: &'w str,
-    words: &[&'w str],
-) -> Result<Task<'w>, WordFault<'w>>
+fn local_in<'w>(alloc: Global, command: &'w str, words: &[&'w str]) -> Reading<'w, Task<'w>>
     ensures { Reads task_shown result (local_in command.now (map word_shown words.now)) }
 {
     match words {
@@ -79,11 +75,7 @@ fn local_in<'w>(
 }
 
 /// Two zones and a local time.
-fn convert_in<'w>(
-    alloc: Global,
-    command: &'w str,
-    words: &[&'w str],
-) -> Result<Task<'w>, WordFault<'w>>
+fn convert_in<'w>(alloc: Global, command: &'w str, words: &[&'w str]) -> Reading<'w, Task<'w>>
     ensures { Reads task_shown result (convert_in command.now (map word_shown words.now)) }
 {
     match words {
@@ -94,11 +86,7 @@ fn convert_in<'w>(
 }
 
 /// The changes of a zone between two instants.
-fn changes_in<'w>(
-    command: &'w str,
-    zone: &'w str,
-    window: &[&'w str],
-) -> Result<Task<'w>, WordFault<'w>>
+fn changes_in<'w>(command: &'w str, zone: &'w str, window: &[&'w str]) -> Reading<'w, Task<'w>>
     ensures { Reads task_shown result (changes_in command.now zone.now (map word_shown window.now)) }
 {
     let (from, last) = two_in(command, window)?;
@@ -108,7 +96,7 @@ fn changes_in<'w>(
 }
 
 /// A zone and two instants.
-fn list_in<'w>(command: &'w str, words: &[&'w str]) -> Result<Task<'w>, WordFault<'w>>
+fn list_in<'w>(command: &'w str, words: &[&'w str]) -> Reading<'w, Task<'w>>
     ensures { Reads task_shown result (list_in command.now (map word_shown words.now)) }
 {
     match words {
@@ -123,7 +111,7 @@ fn zone_alarm_in<'w>(
     command: &'w str,
     words: &[&'w str],
     given: &[Given<'w>],
-) -> Result<Task<'w>, WordFault<'w>>
+) -> Reading<'w, Task<'w>>
     ensures { Reads task_shown result (zone_alarm_in command.now (map word_shown words.now) (map given_shown given.now)) }
 {
     let (zone, time) = two_in(command, words)?;
@@ -135,7 +123,7 @@ fn zone_log_in<'w>(
     command: &'w str,
     words: &[&'w str],
     given: &[Given<'w>],
-) -> Result<Task<'w>, WordFault<'w>>
+) -> Reading<'w, Task<'w>>
     ensures { Reads task_shown result (zone_log_in command.now (map word_shown words.now) (map given_shown given.now)) }
 {
     let zone = one_in(command, words)?;
@@ -143,11 +131,7 @@ fn zone_log_in<'w>(
 }
 
 /// One to eight zones, and a year.
-fn chart_in<'w>(
-    alloc: Global,
-    command: &'w str,
-    words: &[&'w str],
-) -> Result<Task<'w>, WordFault<'w>>
+fn chart_in<'w>(alloc: Global, command: &'w str, words: &[&'w str]) -> Reading<'w, Task<'w>>
     ensures { Reads task_shown result (chart_in command.now (map word_shown words.now)) }
 {
     if words.len() < 2 {
@@ -170,7 +154,7 @@ pub(crate) fn task_in<'w>(
     name: &'w str,
     words: &[&'w str],
     given: &[Given<'w>],
-) -> Result<Task<'w>, WordFault<'w>>
+) -> Reading<'w, Task<'w>>
     ensures { Reads task_shown result (task_in command name.now (map word_shown words.now) (map given_shown given.now)) }
 {
     match command {

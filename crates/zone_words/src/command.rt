@@ -1,6 +1,6 @@
 //! The commands.
-ghost use Rattle.std.specs.Prelude.{◌≡◌};
-ghost use Rattle.zone_words.specs.Commands.{command_named, has_objects, is_alarm_option, takes, tells_times};
+ghost use Rattle.std.specs.Prelude.{◌≡◌, map};
+ghost use Rattle.zone_words.specs.{Commands.{command_named, has_objects, is_alarm_option, standing_for, takes, tells_times}, Shown.{row_shown}};
 
 /// A command.
 #[derive(Clone, Copy, Debug, PartialEq, Eq)]
@@ -29,6 +29,18 @@ pub enum Command {
     String,
     /// A picture of offsets.
     Chart,
+}
+
+/// What the first row stands for whose text is the word.
+pub(crate) fn standing_for<T: Copy>(rows: &[(&str, T)], word: &str) -> Option<T>
+    ensures { result ≡ standing_for (map row_shown rows.now) word.now }
+{
+    for row in rows {
+        if word == row.0 {
+            return Some(row.1);
+        }
+    }
+    None
 }
 
 /// The command of that name.

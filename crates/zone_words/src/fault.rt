@@ -67,6 +67,9 @@ impl WordCause {
     }
 }
 
+/// What words spell, or their first fault.
+pub(crate) type Reading<'w, T> = Result<T, WordFault<'w>>;
+
 /// The first fault of the words.
 #[derive(Clone, Copy, Debug, PartialEq, Eq)]
 pub struct WordFault<'w> {

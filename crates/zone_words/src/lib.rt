@@ -13,6 +13,7 @@ mod task;
 mod values;
 
 pub use command::Command;
+pub(crate) use fault::Reading;
 pub use fault::{WordCause, WordFault};
 pub use fault_lines::fault_line;
 pub use given::is_option;

@@ -6,7 +6,7 @@ use crate::arguments::task_in;
 use crate::command::{command_named, takes};
 use crate::given::{Given, has, value_of};
 use crate::sorted::sort_words;
-use crate::{Asked, Command, Task, WordCause, WordFault};
+use crate::{Asked, Command, Reading, Task, WordCause, WordFault};
 use std::alloc::Global;
 use zone_moments::AnswerForm;
 
@@ -26,7 +26,7 @@ fn form_in(given: &[Given<'_>]) -> AnswerForm
 }
 
 /// The command of that name.
-fn command_in(name: &str) -> Result<Command, WordFault<'_>>
+fn command_in(name: &str) -> Reading<'_, Command>
     ensures { Reads (λ command. command) result (command_in name.now) }
 {
     match command_named(name) {
@@ -48,7 +48,7 @@ fn other_option<'w>(command: Command, given: &[Given<'w>]) -> Option<&'w str>
 }
 
 /// What is asked where help is.
-fn help_in<'w>(words: &[&'w str]) -> Result<Task<'w>, WordFault<'w>>
+fn help_in<'w>(words: &[&'w str]) -> Reading<'w, Task<'w>>
     ensures { Reads task_shown result (help_in (map word_shown words.now)) }
 {
     match words {
@@ -61,11 +61,7 @@ fn help_in<'w>(words: &[&'w str]) -> Result<Task<'w>, WordFault<'w>>
 }
 
 /// What a command asks.
-fn of_command<'w>(
-    alloc: Global,
-    words: &[&'w str],
-    given: &[Given<'w>],
-) -> Result<Task<'w>, WordFault<'w>>
+fn of_command<'w>(alloc: Global, words: &[&'w str], given: &[Given<'w>]) -> Reading<'w, Task<'w>>
     ensures { Reads task_shown result (of_command (map word_shown words.now) (map given_shown given.now)) }
 {
     match words {
@@ -81,11 +77,7 @@ fn of_command<'w>(
 }
 
 /// What is asked of words that were sorted.
-fn whole_task<'w>(
-    alloc: Global,
-    words: &[&'w str],
-    given: &[Given<'w>],
-) -> Result<Task<'w>, WordFault<'w>>
+fn whole_task<'w>(alloc: Global, words: &[&'w str], given: &[Given<'w>]) -> Reading<'w, Task<'w>>
     ensures { Reads task_shown result (whole_task (map word_shown words.now) (map given_shown given.now)) }
 {
     if has(given, "--help") {

@@ -1,10 +1,10 @@
 //! The values that words spell.
 ghost use Rattle.std.specs.Prelude.{◌≡◌, ◌++◌, ◌∷◌, [], IfOk, OnOk, map, string_bytes};
 ghost use Rattle.zone_moments.specs.{Readings.{local_in}, Shown.{asked}};
-ghost use Rattle.zone_words.specs.{Alarms.{if_told}, Options.{value_of}, Shown.{given_shown, word_shown}, Told.{Reads}, Values.{date_cause, date_in, instant_in, instants_in, number_in, number_of, of_one, of_two, text_in, time_in, year_in, year_of}};
+ghost use Rattle.zone_words.specs.{Alarms.{if_told}, Options.{value_of}, Shown.{given_shown, word_shown}, Told.{Reads}, Values.{date_cause, date_in, digits_in, instant_in, instants_in, number_in, number_of, of_one, of_two, text_in, time_in, year_in, year_of}};
 
 use crate::given::{Given, value_of};
-use crate::{WordCause, WordFault};
+use crate::{Reading, WordCause, WordFault};
 use basics::{is_numeral, u16_of_digits};
 use civil_base::{Date, PlainDateTime, Time};
 use std::alloc::{AllocError, Global};
@@ -44,7 +44,7 @@ fn date_cause(fault: TextFault) -> TextFault
 
 /// The date `YYYY-MM-DD`.
 #[tactic(auto, unfolding(crate::specs::Values::date_in))]
-pub(crate) fn date_in<'w>(alloc: Global, word: &'w str) -> Result<Date, WordFault<'w>>
+pub(crate) fn date_in<'w>(alloc: Global, word: &'w str) -> Reading<'w, Date>
     ensures { Reads (λ date. date) result (date_in word.now) }
 {
     match local_of(alloc, word, "00:00")? {
@@ -55,7 +55,7 @@ pub(crate) fn date_in<'w>(alloc: Global, word: &'w str) -> Result<Date, WordFaul
 
 /// The time of day `hh:mm`, maybe with seconds.
 #[tactic(auto, unfolding(crate::specs::Values::time_in))]
-pub(crate) fn time_in<'w>(alloc: Global, word: &'w str) -> Result<Time, WordFault<'w>>
+pub(crate) fn time_in<'w>(alloc: Global, word: &'w str) -> Reading<'w, Time>
     ensures { Reads (λ time. time) result (time_in word.now) }
 {
     match local_of(alloc, "2000-01-01", word)? {
@@ -65,7 +65,7 @@ pub(crate) fn time_in<'w>(alloc: Global, word: &'w str) -> Result<Time, WordFaul
 }
 
 /// The local time of a date and a time of day in two words.
-fn of_two<'w>(alloc: Global, date: &'w str, time: &'w str) -> Result<PlainDateTime, WordFault<'w>>
+fn of_two<'w>(alloc: Global, date: &'w str, time: &'w str) -> Reading<'w, PlainDateTime>
     ensures { Reads (λ local. local) result (of_two date.now time.now) }
 {
     match local_of(alloc, date, time)? {
@@ -79,7 +79,7 @@ fn of_two<'w>(alloc: Global, date: &'w str, time: &'w str) -> Result<PlainDateTi
 }
 
 /// The local time of a date and a time of day in one word.
-fn of_one(text: &str) -> Result<PlainDateTime, WordFault<'_>>
+fn of_one(text: &str) -> Reading<'_, PlainDateTime>
     ensures { Reads (λ local. local) result (of_one text.now) }
 {
     match read_local(text) {
@@ -93,7 +93,7 @@ pub(crate) fn text_in<'w>(
     alloc: Global,
     command: &'w str,
     words: &[&'w str],
-) -> Result<PlainDateTime, WordFault<'w>>
+) -> Reading<'w, PlainDateTime>
     ensures { Reads (λ local. local) result (text_in command.now (map word_shown words.now)) }
 {
     match words {
@@ -105,7 +105,7 @@ pub(crate) fn text_in<'w>(
 }
 
 /// The instant that a word asks for.
-pub(crate) fn instant_in(word: &str) -> Result<Asked, WordFault<'_>>
+pub(crate) fn instant_in(word: &str) -> Reading<'_, Asked>
     ensures { Reads asked result (instant_in word.now) }
 {
     match read_instant(word) {
@@ -121,7 +121,7 @@ fn add_instant(found: &mut Vec<Asked>, instant: Asked) -> Result<(), AllocError>
 }
 
 /// The instants that words ask for.
-pub(crate) fn instants_in<'w>(alloc: Global, words: &[&'w str]) -> Result<Vec<Asked>, WordFault<'w>>
+pub(crate) fn instants_in<'w>(alloc: Global, words: &[&'w str]) -> Reading<'w, Vec<Asked>>
     ensures { Reads (λ found. map asked found.items) result (instants_in [] (map word_shown words.now)) }
 {
     let mut found = Vec::new(alloc);
@@ -132,31 +132,36 @@ pub(crate) fn instants_in<'w>(alloc: Global, words: &[&'w str]) -> Result<Vec<As
     Ok(found)
 }
 
+/// The number of 16 bits that ASCII digits write.
+fn digits_in(word: &str) -> Option<u16>
+    ensures { result ≡ digits_in word.now }
+{
+    if is_numeral(word) {
+        u16_of_digits(word)
+    } else {
+        None
+    }
+}
+
 /// The number from 1 to 65,535 that ASCII digits write.
 #[tactic(auto, unfolding(crate::specs::Values::number_of))]
 fn number_of(word: &str) -> Option<u16>
     ensures { result ≡ number_of word.now }
 {
-    if !is_numeral(word) {
-        return None;
-    }
-    match u16_of_digits(word) {
+    match digits_in(word) {
         Some(number) if number > 0 => Some(number),
         _ => None,
     }
 }
 
-pub(crate) fn number_in(word: &str) -> Result<u16, WordFault<'_>>
+pub(crate) fn number_in(word: &str) -> Reading<'_, u16>
     ensures { Reads (λ number. number) result (number_in word.now) }
 {
-    match number_of(word) {
-        Some(number) => Ok(number),
-        None => Err(WordFault::of(word, WordCause::Number)),
-    }
+    number_of(word).ok_or(WordFault::of(word, WordCause::Number))
 }
 
 /// The number behind an option, where it is given.
-pub(crate) fn number_told<'w>(given: &[Given<'w>], name: &str) -> Result<Option<u16>, WordFault<'w>>
+pub(crate) fn number_told<'w>(given: &[Given<'w>], name: &str) -> Reading<'w, Option<u16>>
     ensures { Reads (λ number. number) result (if_told number_in (value_of (map given_shown given.now) name.now)) }
 {
     match value_of(given, name) {
@@ -170,20 +175,14 @@ pub(crate) fn number_told<'w>(given: &[Given<'w>], name: &str) -> Result<Option<
 fn year_of(word: &str) -> Option<u16>
     ensures { result ≡ year_of word.now }
 {
-    if !is_numeral(word) {
-        return None;
-    }
-    match u16_of_digits(word) {
+    match digits_in(word) {
         Some(year) if year <= 9999 => Some(year),
         _ => None,
     }
 }
 
-pub(crate) fn year_in(word: &str) -> Result<u16, WordFault<'_>>
+pub(crate) fn year_in(word: &str) -> Reading<'_, u16>
     ensures { Reads (λ year. year) result (year_in word.now) }
 {
-    match year_of(word) {
-        Some(year) => Ok(year),
-        None => Err(WordFault::of(word, WordCause::Year)),
-    }
+    year_of(word).ok_or(WordFault::of(word, WordCause::Year))
 }
