@@ -21,27 +21,17 @@ use Rattle.pad_fmt.specs.contracts.implementations.texts.WriteBufferSmartDisplay
 use Rattle.pad_fmt.specs.contracts.implementations.integers.U8SmartDisplay.TheImpl as of_u8
 use Rattle.pad_fmt.specs.contracts.implementations.integers.U8SmartDisplay.TheImpl.Laws as laws_u8
 use Rattle.pad_fmt.specs.contracts.implementations.integers.U16SmartDisplay.TheImpl as of_u16
-use Rattle.pad_fmt.specs.contracts.implementations.integers.U16SmartDisplay.TheImpl.Laws as laws_u16
 use Rattle.pad_fmt.specs.contracts.implementations.integers.U32SmartDisplay.TheImpl as of_u32
-use Rattle.pad_fmt.specs.contracts.implementations.integers.U32SmartDisplay.TheImpl.Laws as laws_u32
 use Rattle.pad_fmt.specs.contracts.implementations.integers.U64SmartDisplay.TheImpl as of_u64
-use Rattle.pad_fmt.specs.contracts.implementations.integers.U64SmartDisplay.TheImpl.Laws as laws_u64
 use Rattle.pad_fmt.specs.contracts.implementations.integers.U128SmartDisplay.TheImpl as of_u128
-use Rattle.pad_fmt.specs.contracts.implementations.integers.U128SmartDisplay.TheImpl.Laws as laws_u128
 use Rattle.pad_fmt.specs.contracts.implementations.integers.UsizeSmartDisplay.TheImpl as of_usize
-use Rattle.pad_fmt.specs.contracts.implementations.integers.UsizeSmartDisplay.TheImpl.Laws as laws_usize
 use Rattle.pad_fmt.specs.contracts.implementations.integers.I8SmartDisplay.TheImpl as of_i8
 use Rattle.pad_fmt.specs.contracts.implementations.integers.I8SmartDisplay.TheImpl.Laws as laws_i8
 use Rattle.pad_fmt.specs.contracts.implementations.integers.I16SmartDisplay.TheImpl as of_i16
-use Rattle.pad_fmt.specs.contracts.implementations.integers.I16SmartDisplay.TheImpl.Laws as laws_i16
 use Rattle.pad_fmt.specs.contracts.implementations.integers.I32SmartDisplay.TheImpl as of_i32
-use Rattle.pad_fmt.specs.contracts.implementations.integers.I32SmartDisplay.TheImpl.Laws as laws_i32
 use Rattle.pad_fmt.specs.contracts.implementations.integers.I64SmartDisplay.TheImpl as of_i64
-use Rattle.pad_fmt.specs.contracts.implementations.integers.I64SmartDisplay.TheImpl.Laws as laws_i64
 use Rattle.pad_fmt.specs.contracts.implementations.integers.I128SmartDisplay.TheImpl as of_i128
-use Rattle.pad_fmt.specs.contracts.implementations.integers.I128SmartDisplay.TheImpl.Laws as laws_i128
 use Rattle.pad_fmt.specs.contracts.implementations.integers.IsizeSmartDisplay.TheImpl as of_isize
-use Rattle.pad_fmt.specs.contracts.implementations.integers.IsizeSmartDisplay.TheImpl.Laws as laws_isize
 use Rattle.pad_fmt.specs.contracts.implementations.wrappers.RefSmartDisplay.TheImpl as of_ref
 use Rattle.pad_fmt.specs.contracts.implementations.wrappers.RefMutSmartDisplay.TheImpl as of_mut
 use Rattle.pad_fmt.specs.contracts.implementations.wrappers.WrappingSmartDisplay.TheImpl as of_wrapping
@@ -98,41 +88,56 @@ buffer_is_exact size text f ascii none fill =
     let exact = and_from (is_ascii_text text) (is_none f.precision) (ascii_text text ascii) (uncut f.precision none) in
     record { exact = exact; width = buffer_law text f exact fill }
 
-pub u8_is_exact : (n : ℕ) (f : Options) → f.sign_minus ≡ false → f.fill < 128 → IsExactAt of_u8.ghosts n f
-u8_is_exact n f none fill = record { exact = not_from_false f.sign_minus none; width = laws_u8.width_law-law n f (not_from_false f.sign_minus none) fill }
+-- the width of an unsigned number is exact without the flag `-`, and that of a signed one always, whatever its size
+abbrev pub UnsignedIsExact : {M : Type 0} → Ghosts ℕ M → Type 0
+UnsignedIsExact shows = (n : ℕ) (f : Options) → f.sign_minus ≡ false → f.fill < 128 → IsExactAt shows n f
 
-pub u16_is_exact : (n : ℕ) (f : Options) → f.sign_minus ≡ false → f.fill < 128 → IsExactAt of_u16.ghosts n f
-u16_is_exact n f none fill = record { exact = not_from_false f.sign_minus none; width = laws_u16.width_law-law n f (not_from_false f.sign_minus none) fill }
+unsigned_is_exact : UnsignedIsExact of_u8.ghosts
+unsigned_is_exact n f none fill =
+    let exact = not_from_false f.sign_minus none in
+    record { exact = exact; width = laws_u8.width_law-law n f exact fill }
 
-pub u32_is_exact : (n : ℕ) (f : Options) → f.sign_minus ≡ false → f.fill < 128 → IsExactAt of_u32.ghosts n f
-u32_is_exact n f none fill = record { exact = not_from_false f.sign_minus none; width = laws_u32.width_law-law n f (not_from_false f.sign_minus none) fill }
+abbrev pub SignedIsExact : {M : Type 0} → Ghosts ℤ M → Type 0
+SignedIsExact shows = (z : ℤ) (f : Options) → f.fill < 128 → IsExactAt shows z f
 
-pub u64_is_exact : (n : ℕ) (f : Options) → f.sign_minus ≡ false → f.fill < 128 → IsExactAt of_u64.ghosts n f
-u64_is_exact n f none fill = record { exact = not_from_false f.sign_minus none; width = laws_u64.width_law-law n f (not_from_false f.sign_minus none) fill }
+signed_is_exact : SignedIsExact of_i8.ghosts
+signed_is_exact z f fill = record { exact = refl; width = laws_i8.width_law-law z f refl fill }
 
-pub u128_is_exact : (n : ℕ) (f : Options) → f.sign_minus ≡ false → f.fill < 128 → IsExactAt of_u128.ghosts n f
-u128_is_exact n f none fill = record { exact = not_from_false f.sign_minus none; width = laws_u128.width_law-law n f (not_from_false f.sign_minus none) fill }
+pub u8_is_exact : UnsignedIsExact of_u8.ghosts
+u8_is_exact = unsigned_is_exact
 
-pub usize_is_exact : (n : ℕ) (f : Options) → f.sign_minus ≡ false → f.fill < 128 → IsExactAt of_usize.ghosts n f
-usize_is_exact n f none fill = record { exact = not_from_false f.sign_minus none; width = laws_usize.width_law-law n f (not_from_false f.sign_minus none) fill }
+pub u16_is_exact : UnsignedIsExact of_u16.ghosts
+u16_is_exact = unsigned_is_exact
 
-pub i8_is_exact : (z : ℤ) (f : Options) → f.fill < 128 → IsExactAt of_i8.ghosts z f
-i8_is_exact z f fill = record { exact = refl; width = laws_i8.width_law-law z f refl fill }
+pub u32_is_exact : UnsignedIsExact of_u32.ghosts
+u32_is_exact = unsigned_is_exact
 
-pub i16_is_exact : (z : ℤ) (f : Options) → f.fill < 128 → IsExactAt of_i16.ghosts z f
-i16_is_exact z f fill = record { exact = refl; width = laws_i16.width_law-law z f refl fill }
+pub u64_is_exact : UnsignedIsExact of_u64.ghosts
+u64_is_exact = unsigned_is_exact
 
-pub i32_is_exact : (z : ℤ) (f : Options) → f.fill < 128 → IsExactAt of_i32.ghosts z f
-i32_is_exact z f fill = record { exact = refl; width = laws_i32.width_law-law z f refl fill }
+pub u128_is_exact : UnsignedIsExact of_u128.ghosts
+u128_is_exact = unsigned_is_exact
 
-pub i64_is_exact : (z : ℤ) (f : Options) → f.fill < 128 → IsExactAt of_i64.ghosts z f
-i64_is_exact z f fill = record { exact = refl; width = laws_i64.width_law-law z f refl fill }
+pub usize_is_exact : UnsignedIsExact of_usize.ghosts
+usize_is_exact = unsigned_is_exact
 
-pub i128_is_exact : (z : ℤ) (f : Options) → f.fill < 128 → IsExactAt of_i128.ghosts z f
-i128_is_exact z f fill = record { exact = refl; width = laws_i128.width_law-law z f refl fill }
+pub i8_is_exact : SignedIsExact of_i8.ghosts
+i8_is_exact = signed_is_exact
 
-pub isize_is_exact : (z : ℤ) (f : Options) → f.fill < 128 → IsExactAt of_isize.ghosts z f
-isize_is_exact z f fill = record { exact = refl; width = laws_isize.width_law-law z f refl fill }
+pub i16_is_exact : SignedIsExact of_i16.ghosts
+i16_is_exact = signed_is_exact
+
+pub i32_is_exact : SignedIsExact of_i32.ghosts
+i32_is_exact = signed_is_exact
+
+pub i64_is_exact : SignedIsExact of_i64.ghosts
+i64_is_exact = signed_is_exact
+
+pub i128_is_exact : SignedIsExact of_i128.ghosts
+i128_is_exact = signed_is_exact
+
+pub isize_is_exact : SignedIsExact of_isize.ghosts
+isize_is_exact = signed_is_exact
 
 -- what leads to a value or holds it: where the width of the value is exact
 module _ (T M : RattleType) (shows : Ghosts T.Denot M.Denot) (shows_table ends_table : Dict) where

@@ -3,13 +3,13 @@ ghost use Rattle.std.specs.{Prelude.{◌≡◌, ◌+◌, ◌≤◌, ◌++◌, le
 ghost use Rattle.pad_fmt.specs.{Sink.{WroteInPieces}, Number.{sign_text, shown_number, unsigned_width}};
 
 use crate::options::{Alignment, FormatterOptions};
-use crate::padding::{pad_on, shortfall, write_between};
+use crate::padding::{pad_with_width, shortfall, write_between};
 use crate::sink::{Full, TextSink};
 use arrayvec::ArrayString;
 use itoa::Buffer;
 
 // Writes the number of this sign and magnitude, padded as the options ask.
-#[tactic(auto, unfolding(crate::specs::Number::shown_number))]
+#[tactic(auto, unfolding(crate::specs::Number::shown_number, crate::specs::Padding::padded))]
 pub(crate) fn write_number<S: TextSink>(
     out: &mut S,
     options: FormatterOptions,
@@ -29,7 +29,7 @@ pub(crate) fn write_number<S: TextSink>(
     let mut body = ArrayString::<40>::new();
     body.push_str(sign);
     body.push_str(digits);
-    pad_on(Alignment::Right, out, options, width, body.as_str())
+    pad_with_width(out, options.aligned(Alignment::Right), width, body.as_str())
 }
 
 // Writes the sign, so many zeros, and the digits.

@@ -1,5 +1,5 @@
 //! What is asked of the text of a value.
-ghost use Rattle.std.specs.Prelude.{◌≡◌, ◌&&◌, not};
+ghost use Rattle.std.specs.Prelude.{◌≡◌, ◌&&◌, not, Some, unwrap_or};
 ghost use Rattle.pad_fmt.specs.Options.{HandsBack, default_options};
 
 use std::marker::Model;
@@ -160,6 +160,16 @@ impl FormatterOptions {
         ensures { result ≡ self.now.align }
     {
         self.align
+    }
+
+    /// These options, with the text on that side where no alignment is set.
+    pub(crate) fn aligned(self, own_side: Alignment) -> FormatterOptions
+        ensures { result ≡ record self { align = Some (unwrap_or self.align own_side) } }
+    {
+        FormatterOptions {
+            align: Some(self.align.unwrap_or(own_side)),
+            ..self
+        }
     }
 
     /// The requested width in characters, if there is one.

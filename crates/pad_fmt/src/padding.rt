@@ -12,6 +12,7 @@ use crate::sink::{Full, TextSink};
 /// # Errors
 ///
 /// `Full` exactly where text and fill do not fit; a part of them, from the first byte on, may then be written.
+#[tactic(auto, unfolding(crate::specs::Padding::padded))]
 pub fn pad_with_width<S: TextSink>(
     out: &mut S,
     options: FormatterOptions,
@@ -20,22 +21,8 @@ pub fn pad_with_width<S: TextSink>(
 ) -> Result<(), Full>
     ensures wrote { WroteInPieces S.text S.room out.old out.new (padded Left options width text.now) result }
 {
-    pad_on(Alignment::Left, out, options, width, text)
-}
-
-// As `pad_with_width`, where `own_side` is the alignment if none is set.
-#[tactic(auto, unfolding(crate::specs::Padding::padded))]
-pub(crate) fn pad_on<S: TextSink>(
-    own_side: Alignment,
-    out: &mut S,
-    options: FormatterOptions,
-    width: usize,
-    text: &str,
-) -> Result<(), Full>
-    ensures wrote { WroteInPieces S.text S.room out.old out.new (padded own_side options width text.now) result }
-{
     let padding = shortfall(options, width);
-    let before = part_before(options.align().unwrap_or(own_side), padding);
+    let before = part_before(options.align().unwrap_or(Alignment::Left), padding);
     write_between(out, options.fill(), before, text, padding - before)
 }
 

@@ -2,8 +2,8 @@
 ghost use Rattle.std.specs.{Prelude.{◌≡◌}, Fmt.{char_count, is_char_start, take_chars}};
 ghost use Rattle.pad_fmt.specs.{Sink.{WroteInPieces}, Text.{cut, shown_text, text_width}};
 
-use crate::options::{Alignment, FormatterOptions};
-use crate::padding::pad_on;
+use crate::options::FormatterOptions;
+use crate::padding::pad_with_width;
 use crate::sink::{Full, TextSink};
 
 /// A text to be shown: `SmartDisplay` is for types with a size alone, so `str` needs this shell.
@@ -20,7 +20,7 @@ pub(crate) fn write_text<S: TextSink>(
     ensures wrote { WroteInPieces S.text S.room out.old out.new (shown_text text.now options) result }
 {
     let body = cut(text, options.precision());
-    pad_on(Alignment::Left, out, options, char_count(body), body)
+    pad_with_width(out, options, char_count(body), body)
 }
 
 // The bytes of the text, at most the precision.
