@@ -3,8 +3,8 @@ use Rattle.std.{proofs.Common.{◌≡◌, refl, map, ℤ, pos, [], ◌∷◌, �
 use Rattle.basics.specs.Days.{day, days_after_zero, days_in_month, days_in_year, days_into_year, days_through, is_leap, year_start}
 use Rattle.zone_moments.specs.declared.answer_form.AnswerForm.TheVariants.{People}
 use Rattle.zone_replies.specs.{Faults.{each_due}, Fixed.{fixed_view}, Lists.{change_due, sides_text}, Views.{InForce, ZoneView}, declared.fault.ReplyFault.TheVariants.{OutOfYears, Untold}, declared.kind.Kind.TheVariants.{Gap, Fold}}
-use Rattle.zone_displays.specs.{Axes.{hours_in, hours_of, month_begin, x_of, y_of}, Charts.{chart_due, grid_text, picture_due}, Escapes.{escaped_text}, Frames.{each_numbered}, Grids.{bottom_of, hour_mark, month_mark, hour_line, month_line, open_text, text_at}}
-use Rattle.zone_displays.specs.Lines.{abbreviations, circle_text, colour, group_text, legend_line, legend_text, line_text, mark_due, place_text, step_points, step_text, zone_due}
+use Rattle.zone_displays.specs.{Axes.{hours_in, hours_of, month_begin, x_of, y_of}, Charts.{chart_due, grid_text, picture_due}, Escapes.{escaped_text}, Frames.{each_numbered}, Grids.{bottom_of, grid_line, hour_mark, month_mark, open_text, text_at}}
+use Rattle.zone_displays.specs.Lines.{abbreviations, circle_text, colour, group_text, label_text, legend_line, legend_text, line_text, mark_due, place_text, step_points, step_text, zone_due}
 
 abbrev winter : InForce
 winter = record { offset = pos 3600; saving = pos 0; name = codes "CET" }
@@ -45,11 +45,11 @@ unfolding escaped_text
 escapes = refl
 
 february : month_mark 2024 5440 2 ≡ codes "<path class=\"grid\" d=\"M1944 400V5440\"/><text x=\"1944\" y=\"5690\">2</text>\n"
-unfolding digits month_mark month_line text_at x_of month_begin day year_start days_after_zero days_in_year is_leap days_into_year days_through days_in_month
+unfolding digits month_mark grid_line text_at x_of month_begin day year_start days_after_zero days_in_year is_leap days_into_year days_through days_in_month
 february = refl
 
 third_hour : hour_mark 2024 (pos 2) 3 ≡ codes "<path class=\"grid\" d=\"M1200 2560H9984\"/><text x=\"700\" y=\"2630\">-1</text>\n"
-unfolding digits hour_mark hour_line text_at x_of month_begin day year_start days_after_zero days_in_year is_leap days_into_year days_through days_in_month
+unfolding digits hour_mark grid_line text_at x_of month_begin day year_start days_after_zero days_in_year is_leap days_into_year days_through days_in_month
 third_hour = refl
 
 steps : step_points 2024 (pos 2) (berlin (pos 2099)) ≡ codes "M1200 1120H3361V400H8401V1120H9984"
@@ -58,7 +58,7 @@ steps = refl
 
 legend : legend_text 2024 5440 1 (record { name = codes "a&b"; view = berlin (pos 2099) })
     ≡ codes "<path class=\"zone\" d=\"M1200 6340H1700\"/><text x=\"1800\" y=\"6410\">a&amp;b: CET, CEST, CET</text>\n"
-unfolding digits legend_text legend_line text_at abbreviations escaped_text month_begin day year_start days_after_zero days_in_year is_leap days_into_year days_through days_in_month
+unfolding digits legend_text label_text legend_line text_at abbreviations escaped_text month_begin day year_start days_after_zero days_in_year is_leap days_into_year days_through days_in_month
 legend = refl
 
 circles : circle_text 2024 (pos 2) (berlin (pos 2099)) Gap (pos 1711846800) ∷ circle_text 2024 (pos 2) (berlin (pos 2099)) Fold (pos 1729990800) ∷ []
@@ -105,6 +105,6 @@ whole_chart : chart_due (record { name = codes "UTC"; view = fixed_view (pos 0) 
     codes "<path class=\"zone\" d=\"M1200 400H9984\"/>\n" ++
     codes "</g>\n" ++
     codes "</svg>\n")
-unfolding digits colour chart_due picture_due grid_text open_text hours_in month_mark month_line hour_mark hour_line text_at each_numbered zone_due each_due line_text group_text legend_text legend_line abbreviations step_points escaped_text
+unfolding digits colour chart_due picture_due grid_text open_text hours_in month_mark hour_mark grid_line text_at each_numbered zone_due each_due line_text group_text legend_text label_text legend_line abbreviations step_points escaped_text
     bottom_of x_of y_of month_begin day year_start days_after_zero days_in_year is_leap days_into_year days_through days_in_month
 whole_chart = refl

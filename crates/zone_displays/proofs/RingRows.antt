@@ -1,8 +1,8 @@
 -- Alarms at half past two in Berlin in 2024, as Python's `zoneinfo` has their instants.
-use Rattle.std.proofs.Common.{◌≡◌, refl, ap, ◌∙◌, arith, Bool, true, false, not, lit≤, ◌++◌, ◌∷◌, [], List, ℕ, ℤ, map, pos, filter, int_le, int_lt, ◌&&◌, ◌+ℤ◌, ◌-ℤ◌, ◌*ℤ◌, cond, Option, Ok, Err, Some, None}
+use Rattle.std.proofs.Common.{◌≡◌, refl, ap, ◌∙◌, arith, Bool, true, false, not, lit≤, ◌++◌, ◌∷◌, [], List, ℕ, ℤ, map, pos, filter, int_le, int_lt, ◌&&◌, ◌-ℤ◌, cond, Option, Ok, Err, Some, None}
 use Rattle.std.specs.{Prelude.{codes}, Fmt.{digits}, Ordering.{int_eq}}
 use Rattle.basics.specs.{DateLaws.{year_of-day}, Dates.{year_of}, Days.{is_leap, days_in_year, days_in_month, days_after_zero, days_before_zero, year_start, days_through, days_into_year, day, IsCountedYear, IsDate}, SignedLaws.{signed}, Weekdays.{weekday_of}}
-use Rattle.civil_base.specs.{Instants.{local_at, seconds_of}, Layout.{day_part}, Ranges.{is_in_years}}
+use Rattle.civil_base.specs.{Instants.{instant_at, local_at, seconds_of}, Layout.{day_part}, Ranges.{is_in_years}}
 use Rattle.zone_moments.specs.{Written.{epoch_text, fraction_text}, declared.answer_form.AnswerForm.TheVariants.{Epoch}}
 use Rattle.zone_replies.specs.{Faults.{Due, each_due, followed}, Instants.{is_untold, line_due, shown_due}, Skips.{skipping}, Views.{InForce, ZoneView}, declared.fault.ReplyFault.TheVariants.{OutOfYears, Untold}}
 use Rattle.zone_displays.{specs.Days.{days_between, is_dated, is_on, last_of, step_of}, specs.Rings.{by_fold, by_gap, counts, first_of, lines_on, rings_at, rings_due, rung_on, time_on}, proofs.RungLemmas.{not_dated, not_on, not_told, told}}
@@ -21,7 +21,7 @@ total_in : ℤ → ℤ
 total_in t = (in_force (seconds_of t)).offset
 
 instants_in : ℤ → List ℤ
-instants_in x = filter (λ t. int_eq (t +ℤ pos 1000000000 *ℤ total_in t) x) ((x -ℤ pos 7200000000000) ∷ (x -ℤ pos 3600000000000) ∷ [])
+instants_in x = filter (λ t. int_eq (local_at t (total_in t)) x) (map (instant_at x) (pos 7200 ∷ pos 3600 ∷ []))
 
 changes_in : ℤ → ℤ → List ℤ
 changes_in from to = filter (λ s. int_le from s && int_lt s to) (pos 1711846800 ∷ pos 1729990800 ∷ [])

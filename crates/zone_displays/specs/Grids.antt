@@ -24,24 +24,22 @@ open_text year bottom count =
     ++ codes "\" font-family=\"sans-serif\" font-size=\"200\">\n<title>Offsets from UTC in hours, " ++ decimal year
     ++ codes "</title>\n<style>text{stroke:none}.grid{stroke:#ccc;stroke-width:8}.zone{fill:none;stroke-width:40}circle{stroke-width:20}.gap{fill:#fff}.fold{fill:#000}</style>\n"
 
-unfoldable pub month_line : ℕ → ℕ → List ℕ
-month_line x bottom = codes "<path class=\"grid\" d=\"M" ++ decimal x ++ codes " 400V" ++ decimal bottom ++ codes "\"/>"
+-- a line of the grid: from where, behind those bytes, and to where, behind others
+unfoldable pub grid_line : List ℕ → ℕ → List ℕ → ℕ → List ℕ
+grid_line move_to from line_to to = codes "<path class=\"grid\" d=\"" ++ move_to ++ decimal from ++ line_to ++ decimal to ++ codes "\"/>"
 
 -- the line at the first of a month, down to the bottom
 unfoldable pub month_mark : ℕ → ℕ → ℕ → List ℕ
 month_mark year bottom month = let x = x_of year (month_begin year month) in
-    month_line x bottom ++ text_at x (bottom + 250) ++ decimal month ++ codes "</text>\n"
+    grid_line (codes "M") x (codes " 400V") bottom ++ text_at x (bottom + 250) ++ decimal month ++ codes "</text>\n"
 
 abbrev pub month_marks : ℕ → ℕ → List ℕ
 month_marks year bottom = flat_map (month_mark year bottom) (range_with_len 1 12)
 
-unfoldable pub hour_line : ℕ → ℕ → List ℕ
-hour_line y right = codes "<path class=\"grid\" d=\"M1200 " ++ decimal y ++ codes "H" ++ decimal right ++ codes "\"/>"
-
 -- the line of the hour that is n below the highest
 unfoldable pub hour_mark : ℕ → ℤ → ℕ → List ℕ
 hour_mark year high n = let y = 400 + 720 * n in
-    hour_line y (right_of year) ++ text_at 700 (y + 70) ++ signed_decimal (high -ℤ pos n) ++ codes "</text>\n"
+    grid_line (codes "M1200 ") y (codes "H") (right_of year) ++ text_at 700 (y + 70) ++ signed_decimal (high -ℤ pos n) ++ codes "</text>\n"
 
 abbrev pub hour_marks : ℕ → ℤ → ℤ → List ℕ
 hour_marks year low high = flat_map (hour_mark year high) (range_with_len 0 (unsigned_abs (high -ℤ low) + 1))

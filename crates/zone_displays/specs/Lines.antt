@@ -27,10 +27,14 @@ abbreviations year view = (view.force (year_begin year)).name ++ flat_map (λ se
 unfoldable pub legend_line : ℕ → List ℕ
 legend_line y = codes "<path class=\"zone\" d=\"M1200 " ++ decimal y ++ codes "H1700\"/>"
 
--- the name and the abbreviations of the n-th zone, behind a short line, below the plot
+-- a label in the n-th line below the plot, behind a short line
+unfoldable pub label_text : ℕ → ℕ → List ℕ → List ℕ
+label_text bottom n label = let y = legend_place bottom n in
+    legend_line y ++ text_at 1800 (y + 70) ++ escaped_text label ++ codes "</text>\n"
+
+-- the name and the abbreviations of the n-th zone
 unfoldable pub legend_text : ℕ → ℕ → ℕ → Named → List ℕ
-legend_text year bottom n zone = let y = legend_place bottom n in
-    legend_line y ++ text_at 1800 (y + 70) ++ escaped_text (zone.name ++ codes ": " ++ abbreviations year zone.view) ++ codes "</text>\n"
+legend_text year bottom n zone = label_text bottom n (zone.name ++ codes ": " ++ abbreviations year zone.view)
 
 unfoldable pub place_text : ℕ → ℕ → List ℕ
 place_text x y = codes "\" cx=\"" ++ decimal x ++ codes "\" cy=\"" ++ decimal y ++ codes "\" r=\"60\"><title>"

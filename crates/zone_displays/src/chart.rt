@@ -7,7 +7,7 @@ use crate::axes::{Frame, changes_in, frame_of};
 use crate::grid::add_grid;
 use crate::line::add_line;
 use crate::mark::add_marks;
-use crate::zone::ChartZone;
+use crate::zone::{ChartZone, Replied};
 use std::alloc::Global;
 use zone_replies::{ReplyFault, ReplyZone, add_bytes};
 
@@ -18,7 +18,7 @@ fn add_zone<Z: ReplyZone>(
     frame: Frame,
     number: usize,
     zone: &ChartZone<'_, Z>,
-) -> Result<(), ReplyFault>
+) -> Replied
     requires { frame.year ≤ 9999 }
     ensures ok { OnOk result (Ok into.new.items ≡ behind into.old.items (zone_due frame.year frame.high (bottom_of frame.low frame.high) number (named Z.view zone.now))) }
     ensures err { IfErr result (IsFaultOf (zone_due frame.year frame.high (bottom_of frame.low frame.high) number (named Z.view zone.now))) }
@@ -31,11 +31,7 @@ fn add_zone<Z: ReplyZone>(
 }
 
 /// Adds the zones.
-fn add_zones<Z: ReplyZone>(
-    into: &mut Vec<u8>,
-    frame: Frame,
-    zones: &[ChartZone<'_, Z>],
-) -> Result<(), ReplyFault>
+fn add_zones<Z: ReplyZone>(into: &mut Vec<u8>, frame: Frame, zones: &[ChartZone<'_, Z>]) -> Replied
     requires { frame.year ≤ 9999 }
     ensures ok { OnOk result (Ok into.new.items ≡ behind into.old.items (each_numbered (zone_due frame.year frame.high (bottom_of frame.low frame.high)) 0 (map (named Z.view) zones.now))) }
     ensures err { IfErr result (IsFaultOf (each_numbered (zone_due frame.year frame.high (bottom_of frame.low frame.high)) 0 (map (named Z.view) zones.now))) }
@@ -52,7 +48,7 @@ fn add_picture<Z: ReplyZone>(
     into: &mut Vec<u8>,
     frame: Frame,
     zones: &[ChartZone<'_, Z>],
-) -> Result<(), ReplyFault>
+) -> Replied
     requires { frame.year ≤ 9999 }
     ensures ok { OnOk result (Ok into.new.items ≡ behind into.old.items (picture_due frame.year (frame.low, frame.high) (map (named Z.view) zones.now))) }
     ensures err { IfErr result (IsFaultOf (picture_due frame.year (frame.low, frame.high) (map (named Z.view) zones.now))) }

@@ -1,10 +1,10 @@
 //! The line of a zone in a chart, with its changes and its legend.
 ghost use Rattle.std.specs.{Prelude.{◌≡◌, ◌++◌, ◌≤◌, codes, IfOk, OnOk}, List.{flat_map}};
-ghost use Rattle.zone_displays.specs.{Axes.{changes_in}, Grids.{bottom_of}, Lines.{abbreviations, colour, group_text, legend_line, legend_text, line_text, step_points, step_text}, SeenZones.{named}};
+ghost use Rattle.zone_displays.specs.{Axes.{changes_in}, Grids.{bottom_of}, Lines.{abbreviations, colour, group_text, label_text, legend_line, line_text, step_points, step_text}, SeenZones.{named}};
 
 use crate::axes::{Frame, month_begin, x_of, y_at};
 use crate::escape::add_escaped;
-use crate::grid::{add_number, add_text_at, legend_place, right_of};
+use crate::grid::{Added, add_number, add_text_at, legend_place, right_of};
 use crate::zone::ChartZone;
 use std::alloc::{AllocError, Global};
 use zone_replies::{ReplyZone, add_bytes};
@@ -28,12 +28,7 @@ fn colour(number: usize) -> &'static str
 
 /// Adds the way to a change, and to the offset from it on.
 #[tactic(auto, using(std::proofs::Common::append_assoc), unfolding(crate::specs::Lines::step_text))]
-fn add_step<Z: ReplyZone>(
-    into: &mut Vec<u8>,
-    frame: Frame,
-    zone: &Z,
-    second: i64,
-) -> Result<(), AllocError>
+fn add_step<Z: ReplyZone>(into: &mut Vec<u8>, frame: Frame, zone: &Z, second: i64) -> Added
     requires { frame.year ≤ 9999 }
     ensures { OnOk result (into.new.items ≡ into.old.items ++ step_text frame.year frame.high (Z.view zone.now) second) }
 {
@@ -45,12 +40,7 @@ fn add_step<Z: ReplyZone>(
     add_number(into, y)
 }
 
-fn add_steps<Z: ReplyZone>(
-    into: &mut Vec<u8>,
-    frame: Frame,
-    zone: &Z,
-    changes: &[i64],
-) -> Result<(), AllocError>
+fn add_steps<Z: ReplyZone>(into: &mut Vec<u8>, frame: Frame, zone: &Z, changes: &[i64]) -> Added
     requires { frame.year ≤ 9999 }
     ensures { OnOk result (into.new.items ≡ into.old.items ++ flat_map (step_text frame.year frame.high (Z.view zone.now)) changes.now) }
 {
@@ -62,12 +52,7 @@ fn add_steps<Z: ReplyZone>(
 
 /// Adds the points of a zone's line, from the year's beginning to its end.
 #[tactic(auto, using(std::proofs::Common::append_assoc), unfolding(crate::specs::Lines::step_points))]
-fn add_points<Z: ReplyZone>(
-    into: &mut Vec<u8>,
-    frame: Frame,
-    zone: &Z,
-    changes: &[i64],
-) -> Result<(), AllocError>
+fn add_points<Z: ReplyZone>(into: &mut Vec<u8>, frame: Frame, zone: &Z, changes: &[i64]) -> Added
     requires year { frame.year ≤ 9999 }
     requires changes { changes.now ≡ changes_in frame.year (Z.view zone.now) }
     ensures { OnOk result (into.new.items ≡ into.old.items ++ step_points frame.year frame.high (Z.view zone.now)) }
@@ -82,12 +67,7 @@ fn add_points<Z: ReplyZone>(
 }
 
 /// Adds the abbreviation in force at a second.
-fn add_abbreviation<Z: ReplyZone>(
-    into: &mut Vec<u8>,
-    alloc: Global,
-    zone: &Z,
-    second: i64,
-) -> Result<(), AllocError>
+fn add_abbreviation<Z: ReplyZone>(into: &mut Vec<u8>, alloc: Global, zone: &Z, second: i64) -> Added
     ensures { OnOk result (into.new.items ≡ into.old.items ++ ((Z.view zone.now).force second).name) }
 {
     let force = zone.force_at(alloc, second)?;
@@ -96,12 +76,7 @@ fn add_abbreviation<Z: ReplyZone>(
 
 /// Adds the abbreviations in force from some changes on, each behind a comma.
 #[tactic(auto, using(std::proofs::Common::append_assoc))]
-fn add_others<Z: ReplyZone>(
-    into: &mut Vec<u8>,
-    alloc: Global,
-    zone: &Z,
-    changes: &[i64],
-) -> Result<(), AllocError>
+fn add_others<Z: ReplyZone>(into: &mut Vec<u8>, alloc: Global, zone: &Z, changes: &[i64]) -> Added
     ensures { OnOk result (into.new.items ≡ into.old.items ++ flat_map (λ second. codes ", " ++ ((Z.view zone.now).force second).name) changes.now) }
 {
     for change in changes {
@@ -136,7 +111,7 @@ fn label_of<Z: ReplyZone>(
 }
 
 #[tactic(auto, using(std::proofs::Common::append_assoc), unfolding(crate::specs::Lines::legend_line))]
-fn add_legend_line(into: &mut Vec<u8>, y: u128) -> Result<(), AllocError>
+fn add_legend_line(into: &mut Vec<u8>, y: u128) -> Added
     ensures { OnOk result (into.new.items ≡ into.old.items ++ legend_line y) }
 {
     add_bytes(into, b"<path class=\"zone\" d=\"M1200 ")?;
@@ -144,30 +119,21 @@ fn add_legend_line(into: &mut Vec<u8>, y: u128) -> Result<(), AllocError>
     add_bytes(into, b"H1700\"/>")
 }
 
-/// Adds the legend of the zone of that number.
-#[tactic(auto, using(std::proofs::Common::append_assoc), unfolding(crate::specs::Lines::legend_text))]
-fn add_legend<Z: ReplyZone>(
-    into: &mut Vec<u8>,
-    frame: Frame,
-    number: usize,
-    zone: &ChartZone<'_, Z>,
-    changes: &[i64],
-) -> Result<(), AllocError>
-    requires year { frame.year ≤ 9999 }
-    requires changes { changes.now ≡ changes_in frame.year (Z.view zone.now.zone) }
-    ensures { OnOk result (into.new.items ≡ into.old.items ++ legend_text frame.year (bottom_of frame.low frame.high) number (named Z.view zone.now)) }
+/// Adds a label in the line of that number of the legend.
+#[tactic(auto, using(std::proofs::Common::append_assoc), unfolding(crate::specs::Lines::label_text))]
+fn add_label(into: &mut Vec<u8>, frame: Frame, number: usize, label: &[u8]) -> Added
+    ensures { OnOk result (into.new.items ≡ into.old.items ++ label_text (bottom_of frame.low frame.high) number label.now) }
 {
     let y = legend_place(frame, number);
-    let label = label_of(frame, zone, changes)?;
     add_legend_line(into, y)?;
     add_text_at(into, 1800, y + 70)?;
-    add_escaped(into, &label)?;
+    add_escaped(into, label)?;
     add_bytes(into, b"</text>\n")
 }
 
 /// Adds the begin of a group in the colour of that number.
 #[tactic(auto, using(std::proofs::Common::append_assoc), unfolding(crate::specs::Lines::group_text))]
-fn add_group(into: &mut Vec<u8>, number: usize) -> Result<(), AllocError>
+fn add_group(into: &mut Vec<u8>, number: usize) -> Added
     ensures { OnOk result (into.new.items ≡ into.old.items ++ group_text number) }
 {
     into.extend_from_slice(b"<g stroke=\"")?;
@@ -177,20 +143,21 @@ fn add_group(into: &mut Vec<u8>, number: usize) -> Result<(), AllocError>
 }
 
 /// Adds what stands before the marks of the zone of that number.
-#[tactic(auto, using(std::proofs::Common::append_assoc), unfolding(crate::specs::Lines::line_text))]
+#[tactic(auto, using(std::proofs::Common::append_assoc), unfolding(crate::specs::Lines::legend_text, crate::specs::Lines::line_text))]
 pub(crate) fn add_line<Z: ReplyZone>(
     into: &mut Vec<u8>,
     frame: Frame,
     number: usize,
     zone: &ChartZone<'_, Z>,
     changes: &[i64],
-) -> Result<(), AllocError>
+) -> Added
     requires year { frame.year ≤ 9999 }
     requires changes { changes.now ≡ changes_in frame.year (Z.view zone.now.zone) }
     ensures { OnOk result (into.new.items ≡ into.old.items ++ line_text frame.year frame.high (bottom_of frame.low frame.high) number (named Z.view zone.now)) }
 {
+    let label = label_of(frame, zone, changes)?;
     add_group(into, number)?;
-    add_legend(into, frame, number, zone, changes)?;
+    add_label(into, frame, number, &label)?;
     add_bytes(into, b"<path class=\"zone\" d=\"")?;
     add_points(into, frame, &zone.zone, changes)?;
     add_bytes(into, b"\"/>\n")

@@ -6,13 +6,14 @@ ghost use Rattle.zone_displays.specs.{Escapes.{escaped_due}, Lines.{circle_text,
 
 use crate::axes::{Frame, x_of, y_at};
 use crate::escape::add_escaped;
-use crate::grid::add_two;
-use std::alloc::{AllocError, Global};
+use crate::grid::{Added, add_two};
+use crate::zone::Replied;
+use std::alloc::Global;
 use zone_moments::AnswerForm;
-use zone_replies::{Kind, ReplyFault, ReplyZone, Style, add_change_line, kind_between};
+use zone_replies::{Kind, ReplyZone, Style, add_change_line, kind_between};
 
 #[tactic(auto, using(std::proofs::Common::append_assoc), unfolding(crate::specs::Lines::place_text))]
-fn add_place(into: &mut Vec<u8>, x: u128, y: u128) -> Result<(), AllocError>
+fn add_place(into: &mut Vec<u8>, x: u128, y: u128) -> Added
     ensures { OnOk result (into.new.items ≡ into.old.items ++ place_text x y) }
 {
     add_two(into, b"\" cx=\"", x, b"\" cy=\"", y, b"\" r=\"60\"><title>")
@@ -26,7 +27,7 @@ fn add_circle<Z: ReplyZone>(
     zone: &Z,
     kind: Kind,
     second: i64,
-) -> Result<(), AllocError>
+) -> Added
     requires { frame.year ≤ 9999 }
     ensures { OnOk result (into.new.items ≡ into.old.items ++ circle_text frame.year frame.high (Z.view zone.now) kind second) }
 {
@@ -39,12 +40,7 @@ fn add_circle<Z: ReplyZone>(
 }
 
 /// Adds the line of a change as XML writes it.
-fn add_title<Z: ReplyZone>(
-    into: &mut Vec<u8>,
-    alloc: Global,
-    zone: &Z,
-    second: i64,
-) -> Result<(), ReplyFault>
+fn add_title<Z: ReplyZone>(into: &mut Vec<u8>, alloc: Global, zone: &Z, second: i64) -> Replied
     ensures ok { OnOk result (Ok into.new.items ≡ behind into.old.items (escaped_due (change_due People (Z.view zone.now) [] second))) }
     ensures err { IfErr result (IsFaultOf (escaped_due (change_due People (Z.view zone.now) [] second))) }
 {
@@ -65,7 +61,7 @@ fn add_titled<Z: ReplyZone>(
     zone: &Z,
     kind: Kind,
     second: i64,
-) -> Result<(), ReplyFault>
+) -> Replied
     requires { frame.year ≤ 9999 }
     ensures ok { OnOk result (Ok into.new.items ≡ behind into.old.items (titled_due frame.year frame.high (Z.view zone.now) kind second)) }
     ensures err { IfErr result (IsFaultOf (titled_due frame.year frame.high (Z.view zone.now) kind second)) }
@@ -78,12 +74,7 @@ fn add_titled<Z: ReplyZone>(
 
 /// Adds the mark of a change, if clocks skip local times by it or read some twice.
 #[tactic(auto, unfolding(crate::specs::Lines::mark_due))]
-fn add_mark<Z: ReplyZone>(
-    into: &mut Vec<u8>,
-    frame: Frame,
-    zone: &Z,
-    second: i64,
-) -> Result<(), ReplyFault>
+fn add_mark<Z: ReplyZone>(into: &mut Vec<u8>, frame: Frame, zone: &Z, second: i64) -> Replied
     requires { frame.year ≤ 9999 }
     ensures ok { OnOk result (Ok into.new.items ≡ behind into.old.items (mark_due frame.year frame.high (Z.view zone.now) second)) }
     ensures err { IfErr result (IsFaultOf (mark_due frame.year frame.high (Z.view zone.now) second)) }
@@ -102,7 +93,7 @@ pub(crate) fn add_marks<Z: ReplyZone>(
     frame: Frame,
     zone: &Z,
     changes: &[i64],
-) -> Result<(), ReplyFault>
+) -> Replied
     requires { frame.year ≤ 9999 }
     ensures ok { OnOk result (Ok into.new.items ≡ behind into.old.items (each_due (mark_due frame.year frame.high (Z.view zone.now)) changes.now)) }
     ensures err { IfErr result (IsFaultOf (each_due (mark_due frame.year frame.high (Z.view zone.now)) changes.now)) }

@@ -1,4 +1,8 @@
 //! Zones of a chart.
+use zone_replies::ReplyFault;
+
+/// What is due was added, or its fault is told.
+pub(crate) type Replied = Result<(), ReplyFault>;
 
 /// A zone of a chart.
 #[derive(Drop)]
