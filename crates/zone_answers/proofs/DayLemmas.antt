@@ -1,7 +1,7 @@
 -- Zoned texts of one day at one offset.
-use Rattle.std.proofs.{Common.{◌≡◌, ℕ, ◌+◌, ◌*◌, ◌<◌, ◌≤◌, List, [], ◌∷◌, ◌++◌, length, take, drop, ℤ, pos, ◌+ℤ◌, ◌-ℤ◌, ◌*ℤ◌, refl, sym, ap, ◌∙◌, subst, arith, length-append, append_assoc}, lemmas.List.{drop-append-le, take-append-le}, Math.Seq.{drop-append_seam}}
+use Rattle.std.proofs.{Common.{◌≡◌, ℕ, ◌<◌, List, [], ◌∷◌, ◌++◌, length, take, drop, ℤ, pos, ◌+ℤ◌, ◌-ℤ◌, refl, sym, ap, ◌∙◌, arith, length-append, append_assoc}, lemmas.List.{take-append-le}, Math.Seq.{drop-append_seam}}
 use Rattle.basics.specs.{Dates.{year_of}, SignedLaws.{signed}}
-use Rattle.civil_base.specs.{Clock.{nanos_per_day}, Instants.{local_at}, Layout.{date_digits, day_part, local_text, offset_text, time_part, time_text, year_sign, zoned_text}, LayoutLaws.{local_text-sign, offset_text-length, unsigned_text, unsigned_text-shape, year_sign-length}, PartLaws.{parts-joined, time_part-inside}}
+use Rattle.civil_base.specs.{Clock.{nanos_per_day}, Instants.{local_at}, Layout.{date_digits, day_part, offset_text, time_part, time_text, year_sign, zoned_text}, LayoutLaws.{local_text-sign, offset_text-length, unsigned_text, unsigned_text-shape}, PartLaws.{parts-joined, time_part-inside}}
 
 -- a local time so much later, by the time of day
 pub record IsSameDate (x y : ℤ) (nanos : ℕ) : Type 0 where

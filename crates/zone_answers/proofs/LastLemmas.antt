@@ -1,11 +1,11 @@
 -- A request for an instant whose line's last digits are others asks for another instant.
-use Rattle.std.proofs.Common.{◌≡◌, ◌≢◌, ℕ, zero, suc, ◌+◌, ◌-◌, ◌*◌, ◌<◌, ◌≤◌, Bool, true, false, not, ◌&&◌, cond, List, [], ◌∷◌, ◌++◌, length, take, drop, get_or, Option, Some, None, option_map, ℤ, pos, neg_ℤ, ◌+ℤ◌, ◌-ℤ◌, ◌<ℤ◌, ◌≤ℤ◌, eqb, nat_lt, nat_le, ◌^◌, lit<, lit≤, refl, sym, ap, ◌∙◌, subst, arith, length-append, length-drop}
-use Rattle.std.proofs.lemmas.{Bool.{and_parts, and_from, ltb-true, leb-true, true≢false}, Int.{ints}, Int.Digits.{digits_value-lt}, List.{drop-append-le, take-append-le}, List.Folds.{list_all-append, prefix_len-append}, Option.{none-some}, Str.{IsUtf8-append, IsUtf8-from_ascii, is_utf8-from_IsUtf8}, Str.Parse.{digit_from_value}}
+use Rattle.std.proofs.Common.{◌≡◌, ℕ, ◌+◌, ◌*◌, ◌<◌, ◌≤◌, Bool, true, false, not, ◌&&◌, cond, List, [], ◌∷◌, ◌++◌, length, take, drop, Option, Some, None, option_map, ℤ, pos, neg_ℤ, ◌+ℤ◌, ◌<ℤ◌, ◌≤ℤ◌, eqb, nat_lt, nat_le, ◌^◌, lit<, refl, sym, ap, ◌∙◌, subst, arith, length-append, length-drop}
+use Rattle.std.proofs.lemmas.{Bool.{and_parts, and_from, ltb-true, leb-true, true≢false}, Int.{ints}, Int.Digits.{digits_value-lt}, List.{drop-append-le, take-append-le}, List.Folds.{list_all-append, prefix_len-append}, Option.{none-some}, Str.Parse.{digit_from_value}}
 use Rattle.std.proofs.Math.Nat.{pow-le-pow_right}
-use Rattle.std.specs.{Prelude.{bytes_eq, codes, slice_index}, Char.{digit_value, is_digit}, List.{after_first, before_first, list_all, position_or_len, prefix_len}, Str.{is_utf8, IsUtf8}, Str.Parse.{digits_value, digits_value_after}}
+use Rattle.std.specs.{Prelude.{bytes_eq, codes}, Char.{digit_value, is_digit}, List.{after_first, before_first, list_all, position_or_len}, Str.Parse.{digits_value, digits_value_after}}
 use Rattle.civil_base.specs.LocalTimes.{local_time_in}
 use Rattle.zone_answers.proofs.RequestLemmas.{digits_from}
-use Rattle.zone_answers.specs.{AskedLaws.{Asks}, Requests.{Request, at, local, is_negative, is_number, is_space, nanoseconds_in, request_of, request_with, without_minus}}
+use Rattle.zone_answers.specs.{Requests.{Request, at, local, is_negative, is_number, is_space, nanoseconds_in, request_of, request_with}}
 
 -- ---- the first space, where one lies in front of the last digits
 

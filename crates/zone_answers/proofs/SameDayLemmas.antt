@@ -1,12 +1,12 @@
 -- What answers requests for instants of one local day at one offset.
-use Rattle.std.proofs.{Common.{◌≡◌, ℕ, ◌+◌, ◌-◌, ◌*◌, ◌^◌, ◌%◌, ◌<◌, ◌≤◌, true, cond, List, [], ◌∷◌, ◌++◌, length, Some, None, Ok, ℤ, pos, ◌+ℤ◌, ◌-ℤ◌, ◌*ℤ◌, ◌≤ℤ◌, ◌<ℤ◌, sym, ap, ◌∙◌, subst, arith}, lemmas.Bool.{and_from}, lemmas.Int.{ints}, lemmas.List.{append-nil}, lemmas.Str.{IsUtf8-append, IsUtf8-from_ascii, is_utf8-from_IsUtf8}, lemmas.Fmt.{IsAscii-from_digits}}
-use Rattle.std.specs.{Char.{is_digit}, Str.{IsUtf8}, Str.Parse.{digits_value}}
+use Rattle.std.proofs.{Common.{◌≡◌, ℕ, ◌+◌, ◌-◌, ◌^◌, ◌%◌, ◌<◌, ◌≤◌, true, cond, List, ◌++◌, length, Some, None, Ok, ℤ, pos, ◌+ℤ◌, ◌≤ℤ◌, ◌<ℤ◌, refl, sym, ap, ◌∙◌, subst, arith}, lemmas.Bool.{and_from}, lemmas.Int.{ints}, lemmas.List.{append-nil}, lemmas.Str.{IsUtf8-append, IsUtf8-from_ascii, is_utf8-from_IsUtf8}, lemmas.Fmt.{IsAscii-from_digits}}
+use Rattle.std.specs.{Str.{IsUtf8}, Str.Parse.{digits_value}}
 use Rattle.basics.specs.SignedLaws.{signed}
-use Rattle.civil_base.specs.{Clock.{nanos_per_day}, Instants.{local_at, nanos_of, seconds_of}, Layout.{time_part, zoned_text}, RangeLaws.{offset_least, offset_greatest, years_between}, Ranges.{IsOffset}}
+use Rattle.civil_base.specs.{Instants.{local_at, nanos_of, seconds_of}, Layout.{time_part, zoned_text}, RangeLaws.{offset_least, offset_greatest, years_between}, Ranges.{IsOffset}}
 use Rattle.zone_spans.specs.Schedules.{Schedule, total_at}
 use Rattle.tz_zone.specs.{SecondLaws.{IsSecond, one_second, second_is, total_is}, Spans.{total_from}}
 use Rattle.tz_lookup.specs.{Stretches.{IsKnown}, declared.stretch.Stretch.{Stretch}}
-use Rattle.zone_answers.specs.{AskedLaws.{Asks}, Due.{answer_line, answer_text, shown_at}, Faults.{has_dates, range}, Found.{Found}, Requests.{at, request_of}, SameDayLaws.{in_seconds}, SameDays.{AreLast, IsAnswered, IsAround, IsSameDay, IsThroughout, at_time}}
+use Rattle.zone_answers.specs.{AskedLaws.{Asks}, Due.{answer_text, shown_at}, Faults.{has_dates, range}, Found.{Found}, Requests.{at, request_of}, SameDayLaws.{in_seconds}, SameDays.{AreLast, IsAdded, IsAnswered, IsAround, IsBefore, IsSameDay, IsThroughout, at_time}}
 use Rattle.zone_answers.proofs.{DayLemmas.{IsSameDate, other_time, same_date}, LastLemmas.{IsOther, all_digits, other_request}, ReadBackLemmas.{line_back}, RequestLemmas.{digits_from}, RefusalLemmas.{dates_are, line_is}}
 
 -- a request for an instant of a zone that was found, its line, and what is in force there
@@ -24,12 +24,13 @@ pub record IsAsked (names : List ℕ → Found) (total : ℤ → ℤ) (front end
 ascii : (ds : List ℕ) → all_digits ds ≡ true → IsUtf8 ds
 ascii ds is = IsUtf8-from_ascii ds (IsAscii-from_digits ds (digits_from ds is))
 
-answered : (names : List ℕ → Found) (total : ℤ → ℤ) (front last name : List ℕ) (n : ℤ) (line : List ℕ) (next : List ℕ) (m : ℤ) (nanos : ℕ)
+answered : (names : List ℕ → Found) (total : ℤ → ℤ) (latest : ℕ) (front last name : List ℕ) (n : ℤ) (line : List ℕ) (next : List ℕ) (m : ℤ) (nanos : ℕ)
     → IsAsked names total front last name n line → AreLast next → request_of (front ++ next) ≡ Some (at name m) → total m ≡ total n
-    → n ≤ℤ (m +ℤ pos 100000000000000) → m ≤ℤ (n +ℤ pos 100000000000000)
-    → IsSameDate (local_at n (total n)) (local_at m (total n)) nanos → IsAnswered names (front ++ next) (at_time line nanos)
+    → n ≤ℤ (m +ℤ pos 100000000000000) → m ≤ℤ (n +ℤ pos 100000000000000) → m <ℤ pos latest
+    → IsSameDate (local_at n (total n)) (local_at m (total n)) nanos → IsAnswered names latest (front ++ next) (at_time line nanos)
 unfolding has_dates shown_at
-answered names total front last name n line next m nanos it digits reads same low high date = record {
+answered names total latest front last name n line next m nanos it digits reads same low high early date = record {
+  early = subst (IsBefore latest) (sym reads) early;
   accepted = λ k. dates_are names k (front ++ next) (at name m) total asks it.found ∙ ap (λ b. cond b None (Some (range k))) dates;
   line = line_is names (front ++ next) (at name m) total asks it.found ∙ append-nil (zoned_text m (total m))
       ∙ ap (zoned_text m) same ∙ other_time line n m (total n) nanos it.line it.long date;
@@ -45,12 +46,13 @@ answered names total front last name n line next m nanos it digits reads same lo
         (years_between (local_at m (total m)) (omega (arith, signed, it.late, low, offset_least (total m) (it.small m)))
         (omega (arith, signed, it.early, high, offset_greatest (total m) (it.small m))))
 
--- The requests of a day around one of them: from the later of two instants on, up to the earlier of two.
-pub same_day : (names : List ℕ → Found) (total : ℤ → ℤ) (front last name : List ℕ) (now number : ℕ) (line : List ℕ) (stretch : Stretch)
+-- The requests of a day around one of them: from the later of two instants on, up to the earliest of three.
+pub same_day : (names : List ℕ → Found) (total : ℤ → ℤ) (latest : ℕ) (front last name : List ℕ) (now number : ℕ) (line : List ℕ) (stretch : Stretch)
     (from until begins base first past : ℕ) → IsAsked names total front last name (pos now) line → number ≡ digits_value 10 last
     → base + number ≡ now → IsThroughout total stretch → IsAround stretch now from until begins → from ≤ first → base ≤ first → now < past
-    → past ≤ until → past ≤ base + 100000000000000 → IsSameDay names front (first - base) (past - base) (begins + (first - from)) line
-same_day names total front last name now number line stretch from until begins base first past it value based throughout around later after lasts sooner near =
+    → past ≤ until → past ≤ base + 100000000000000 → past ≤ latest
+    → IsSameDay names latest front (record { from = first - base; until = past - base; begins = begins + (first - from); line = line })
+same_day names total latest front last name now number line stretch from until begins base first past it value based throughout around later after lasts sooner near soon =
     record {
       ends = omega (arith, around.day, around.begun, around.lasts, later, after, sooner, lasts, based);
       each = each;
@@ -63,7 +65,7 @@ same_day names total front last name now number line stretch from until begins b
     begun = around.begins ∙ ap (λ o. time_part (local_at (pos now) o) + from) (sym here)
 
     each : (next : List ℕ) → AreLast next → first - base ≤ digits_value 10 next → digits_value 10 next < past - base
-        → IsAnswered names (front ++ next) (at_time line (begins + (first - from) + (digits_value 10 next - (first - base))))
+        → IsAnswered names latest (front ++ next) (at_time line (begins + (first - from) + (digits_value 10 next - (first - base))))
     each next digits low high =
         let v = digits_value 10 next in
         let other : IsOther front last next name (pos now) = other_request front last next name (pos now) it.asks.reads it.late it.last.count digits.count digits.digits in
@@ -71,8 +73,8 @@ same_day names total front last name now number line stretch from until begins b
         let is : m ≡ pos (base + v) = omega (arith, signed, other.sum, value, based) in
         let there : total m ≡ stretch.offset =
         throughout m (omega (arith, signed, is, around.first, later, after, low)) (omega (arith, signed, is, around.past, sooner, high)) in
-        answered names total front last name (pos now) line next m _ it digits other.reads (there ∙ sym here)
-        (omega (arith, signed, is, near, lasts)) (omega (arith, signed, is, near, high, based))
+        answered names total latest front last name (pos now) line next m _ it digits other.reads (there ∙ sym here)
+        (omega (arith, signed, is, near, lasts)) (omega (arith, signed, is, near, high, based)) (omega (arith, signed, is, soon, high))
         (same_date (local_at (pos now) (total (pos now))) (local_at m (total (pos now))) _
         (omega (arith, signed, is, begun, later, after, low)) (omega (arith, around.day, sooner, high, low, later, after)))
 
@@ -108,3 +110,11 @@ asked_is names total front end name text shown line n now is cut asks utf8 digit
   line = same ∙ told ∙ append-nil (zoned_text n (total n)) ∙ ap (λ m. zoned_text m (total m)) is;
   long = ap length same ∙ long;
 }
+
+-- a line that answers a request, behind a text
+pub added : (names : List ℕ → Found) (latest : ℕ) (request line old new : List ℕ) → IsAnswered names latest request line → new ≡ old ++ line
+    → IsAdded names latest request old new
+added names latest request line old new is grown = (
+      record { accepted = is.accepted; line = refl; back = is.back; early = is.early },
+      grown ∙ ap (λ t. old ++ t) (sym is.line),
+    )

@@ -1,30 +1,46 @@
 -- Requests for instants of one local day, whose lines differ in the last digits alone: their answers' lines differ in the time of day.
-use Rattle.std.specs.{Prelude.{◌≡◌, ℕ, ◌+◌, ◌-◌, ◌≤◌, ◌<◌, ◌++◌, ◌∷◌, true, ℤ, pos, ◌≤ℤ◌, ◌<ℤ◌, All, List, None, length, take, drop}, Char.{is_digit}, List.{list_all}, Str.Parse.{digits_value}}
+use Rattle.std.specs.{Prelude.{◌≡◌, ℕ, ◌+◌, ◌-◌, ◌≤◌, ◌<◌, ◌++◌, ◌∷◌, true, ℤ, pos, ◌≤ℤ◌, ◌<ℤ◌, All, List, Option, Some, None, length, take, drop}, Char.{is_digit}, List.{list_all}, Str.Parse.{digits_value}}
 use Rattle.civil_base.specs.{Clock.{nanos_per_day}, Instants.{local_at, nanos_of}, Layout.{time_part, time_text}}
 use Rattle.tz_lookup.specs.declared.stretch.Stretch.{Stretch}
-use Rattle.zone_answers.specs.{Due.{answer_line, shown_for}, Faults.{request_refusal}, Found.{Found}, ReadBack.{IsReadBack}}
+use Rattle.zone_answers.specs.{Due.{answer_line, shown_for}, Faults.{request_refusal}, Found.{Found}, ReadBack.{IsReadBack}, Requests.{Request, at, local, request_of}, declared.same_day.SameDay.{SameDay}}
 
--- the request, whatever its number, is answered by this line, where names find this
-pub record IsAnswered (names : List ℕ → Found) (request answer : List ℕ) : Type 0 where
+-- an instant before the latest is asked for
+abbrev pub IsBefore : ℕ → Option Request → Type 0
+IsBefore latest (Some (at name instant)) = instant <ℤ pos latest
+IsBefore latest (Some (local name time)) = ⊥
+IsBefore latest None = ⊥
+
+-- the request, whatever its number, asks for an instant before the latest and is answered by this line, where names find this
+pub record IsAnswered (names : List ℕ → Found) (latest : ℕ) (request answer : List ℕ) : Type 0 where
   pub accepted : (n : ℕ) → request_refusal names n request ≡ None
   pub line : answer_line names request ≡ answer
   pub back : All IsReadBack (shown_for names request)
+  pub early : IsBefore latest (request_of request)
+
+-- and this line stands behind a text now
+abbrev pub IsAdded : (List ℕ → Found) → ℕ → List ℕ → List ℕ → List ℕ → Type 0
+IsAdded names latest request old new =
+    IsAnswered names latest request (answer_line names request) × (new ≡ old ++ answer_line names request)
 
 -- the digits that may differ
 pub record AreLast (last : List ℕ) : Type 0 where
   pub count : length last ≡ 14
   pub digits : list_all (λ c. is_digit c 10) last ≡ true
 
+-- what a line begins with, but for so many digits
+abbrev pub front_of : List ℕ → List ℕ
+front_of line = take (length line - 14) line
+
 -- a line with another time of day
 abbrev pub at_time : List ℕ → ℕ → List ℕ
 at_time line nanos = take 10 line ++ (32 ∷ time_text nanos) ++ drop 29 line
 
--- With these last digits behind the front, numbers from one up to another are answered by the line with another time of day, which is
--- so many nanoseconds from midnight at the first.
-pub record IsSameDay (names : List ℕ → Found) (front : List ℕ) (from until begins : ℕ) (line : List ℕ) : Type 0 where
-  pub ends : begins + until ≤ from + nanos_per_day
-  pub each : (last : List ℕ) → AreLast last → from ≤ digits_value 10 last → digits_value 10 last < until
-      → IsAnswered names (front ++ last) (at_time line (begins + (digits_value 10 last - from)))
+-- With last digits behind the front, numbers from one up to another ask for instants before the latest and are answered by the line with
+-- another time of day, which is so many nanoseconds from midnight at the first.
+pub record IsSameDay (names : List ℕ → Found) (latest : ℕ) (front : List ℕ) (day : SameDay) : Type 0 where
+  pub ends : day.begins + day.until ≤ day.from + nanos_per_day
+  pub each : (last : List ℕ) → AreLast last → day.from ≤ digits_value 10 last → digits_value 10 last < day.until
+      → IsAnswered names latest (front ++ last) (at_time day.line (day.begins + (digits_value 10 last - day.from)))
 
 -- one total is in force at each instant of the stretch's seconds, of which there may be none
 abbrev pub IsThroughout : (ℤ → ℤ) → Stretch → Type 0

@@ -12,7 +12,7 @@ use crate::error::{AnswerError, ReadingError, Side};
 use crate::fault::write_reading_fault;
 use crate::opened::{OpenedZone, Zones};
 use crate::request::Spelled;
-use crate::same_day::SameDay;
+use crate::same_day::{LATEST, SameDay, are_alike};
 use crate::summary::summary_line;
 use std::alloc::Global;
 use std::marker::PhantomData;
@@ -157,8 +157,12 @@ fn answer_anew<'r, Z: OpenedZone>(
     let place = zones.place_of(spelled.request.name(), number)?;
     let zone = zones.zone_at(place);
     show_line(zone, &spelled, number, text)?;
-    let day = SameDay::after(zones.before, zone, asked, &spelled.request, text);
-    zones.keep(asked, day);
+    if are_alike(zones.before, line) {
+        let day = SameDay::of(zone, asked, &spelled.request, text, LATEST);
+        zones.keep(asked, day);
+    } else {
+        zones.keep(asked, None);
+    }
     Ok(())
 }
 

@@ -19,6 +19,7 @@ pub use fault::write_fault;
 pub use opened::{OpenedZone, Zones};
 pub use request::{Request, Spelled, cut_at_space, nanoseconds};
 pub use running::{run, run_surely, start};
+pub use same_day::{SameDay, are_alike};
 pub use showing::{add_instant, add_instants, show, show_spelled};
 pub use to_2099::open_zone;
 pub use tz_lookup::ZoneFault;

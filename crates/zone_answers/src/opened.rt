@@ -1,8 +1,8 @@
 //! Zones that requests name, each opened once and kept.
-ghost use Rattle.std.specs.Prelude.{◌≡◌, ◌++◌, ℤ, pos, ◌≤ℤ◌, false, IfErr, IfOk, IsTrue, Ok, OnErr};
+ghost use Rattle.std.specs.Prelude.{◌≡◌, ◌++◌, ℤ, pos, ◌≤ℤ◌, false, IfErr, IfOk, IsTrue, Ok, OnErr, []};
 ghost use Rattle.civil_base.specs.Ranges.{far_seconds, IsOffset};
 ghost use Rattle.zone_table.specs.{BoundedTables.{IsBoundedTable}, Resolved.{resolved_in}};
-ghost use Rattle.zone_answers.specs.{Asked.{asked}, Due.{answer_text, shown_at}, Faults.{has_dates, zone_refusal}, Found.{Reading, found_in_table}, Requests.{IsSpelled}, SameDays.{IsAnswered, IsSameDay, IsThroughout}, Told.{TellsReading}};
+ghost use Rattle.zone_answers.specs.{Asked.{asked}, Due.{answer_text, shown_at}, Faults.{has_dates, zone_refusal}, Found.{Reading, found_in_table}, Requests.{IsSpelled}, SameDays.{IsAdded, IsSameDay, IsThroughout, front_of}, Told.{TellsReading}};
 
 use crate::error::ReadingError;
 use crate::request::Request;
@@ -90,7 +90,7 @@ pub struct Zones<'t, 'r, Z> {
     last: Option<Last<'r>>,
     // the line of the request that was answered last by itself, and those that it answers too
     pub(crate) before: &'r [u8],
-    day: Option<SameDay<'r>>,
+    day: Option<SameDay>,
 }
 
 /// The name that was asked for last, and where its zone stands.
@@ -175,18 +175,21 @@ impl<'t, 'r, Z: OpenedZone> Zones<'t, 'r, Z> {
     /// day alone.
     pub(crate) fn show_again(&self, request: &[u8], text: &mut Vec<u8>) -> Result<bool, AllocError>
         requires { AreOpened Z.OpenedZone self.now }
-        ensures { IfOk result (λ has. IsTrue has → IsAnswered (found_in_table Z.read (table_of self.now)) request.now text.new.items) }
+        ensures { IfOk result (λ has. IsTrue has → IsAdded (found_in_table Z.read (table_of self.now)) 7000000000000000000 request.now [] text.new.items) }
     {
         match &self.day {
-            Some(day) => day.show(request, text),
+            Some(day) => {
+                text.clear();
+                day.add(self.before, request, text)
+            }
             None => Ok(false),
         }
     }
 
     /// Keeps the text of a request that was answered by itself, and those of the same day.
-    pub(crate) fn keep(&mut self, text: &'r str, day: Option<SameDay<'r>>)
+    pub(crate) fn keep(&mut self, text: &'r str, day: Option<SameDay>)
         requires opened { AreOpened Z.OpenedZone self.old }
-        requires day { IfSome day (λ day. IsSameDay (found_in_table Z.read (table_of self.old)) day.front.now day.from day.until day.begins day.line) }
+        requires day { IfSome day (IsSameDay (found_in_table Z.read (table_of self.old)) 7000000000000000000 (front_of text.now)) }
         ensures same { table_of self.new ≡ table_of self.old }
         ensures opened { AreOpened Z.OpenedZone self.new }
     {

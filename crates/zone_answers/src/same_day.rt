@@ -1,8 +1,8 @@
 //! Requests for instants of one local day whose lines differ in the last digits alone, as those of a log do: the answer to one is that to
 //! another with its own time of day.
-ghost use Rattle.std.specs.{Prelude.{◌≡◌, ◌+◌, ◌-◌, ◌*◌, ◌≤◌, ◌<◌, ◌++◌, ℕ, ℤ, pos, ◌≤ℤ◌, ◌<ℤ◌, List, IfOk, IfSome, IsTrue, Ok, length}, Str.Parse.{digits_value}};
+ghost use Rattle.std.specs.{Prelude.{◌≡◌, ◌+◌, ◌-◌, ◌*◌, ◌≤◌, ◌<◌, ◌++◌, ℕ, ℤ, pos, ◌≤ℤ◌, ◌<ℤ◌, List, IfOk, IfSome, IsTrue, Ok, OnErr, false, length}};
 ghost use Rattle.civil_base.specs.{Clock.{nanos_per_day}, Instants.{local_at, nanos_of}, Ranges.{IsOffset}};
-ghost use Rattle.zone_answers.specs.{Asked.{asked}, AskedLaws.{Asks}, Due.{answer_text, shown_at}, Found.{Found}, Requests.{name_of, request_of}, SameDays.{IsAnswered, IsAround, IsSameDay, at_time}};
+ghost use Rattle.zone_answers.specs.{Asked.{asked}, AskedLaws.{Asks}, Due.{answer_text, shown_at}, Found.{Found}, Requests.{name_of, request_of}, SameDays.{IsAdded, IsAround, IsSameDay, at_time, front_of}};
 
 use crate::opened::OpenedZone;
 use crate::request::{Request, last_digits};
@@ -17,17 +17,16 @@ const LAST: usize = 14;
 const LAST_NUMBERS: u64 = 100_000_000_000_000;
 
 /// 2191-10-27, in nanoseconds from 1970-01-01 00:00:00 UTC: later instants are answered one by one.
-const LATEST: i128 = 7_000_000_000_000_000_000;
+pub(crate) const LATEST: u64 = 7_000_000_000_000_000_000;
 
 const NANOS_PER_SECOND: u64 = 1_000_000_000;
 
 const NANOS_PER_DAY: u64 = 86_400_000_000_000;
 
-/// Requests that begin alike, for instants of one local day at one offset.
+/// Requests for instants of one local day at one offset, whose lines begin as one of them does that is kept apart: they differ in the last
+/// fourteen bytes alone, which are digits.
 #[derive(Clone, Copy, Debug)]
-pub(crate) struct SameDay<'r> {
-    /// What their lines begin with.
-    front: &'r str,
+pub struct SameDay {
     /// The least number of their last digits.
     from: u64,
     /// The number past the greatest.
@@ -38,37 +37,34 @@ pub(crate) struct SameDay<'r> {
     line: [u8; 39],
 }
 
-impl<'r> SameDay<'r> {
-    /// Those of the day of a request whose line is this text and which is answered by this line, if the request before it began alike and
-    /// they can be told.
-    pub(crate) fn after<Z: OpenedZone>(
-        before: &[u8],
+impl SameDay {
+    /// Those of the day of a request at the zone whose line is this text and which is answered by this line, if they can be told. They ask
+    /// for instants before the latest, in nanoseconds from 1970-01-01 00:00:00 UTC, which is at most 7,000,000,000,000,000,000.
+    pub fn of<Z: OpenedZone>(
         zone: &Z,
-        text: &'r str,
+        text: &str,
         request: &Request<'_>,
         shown: &[u8],
-    ) -> Option<SameDay<'r>>
+        latest: u64,
+    ) -> Option<SameDay>
+        requires { latest ≤ 7000000000000000000 }
         ensures { IfSome result (λ day. (names : List ℕ → Found) → Asks request_of text.now (asked request.now)
             → names (name_of (asked request.now)) ≡ Ok (Z.total_at zone.now)
             → shown.now ≡ answer_text (shown_at (Z.total_at zone.now) (asked request.now)) → ((t : ℤ) → IsOffset (Z.total_at zone.now t))
-            → IsSameDay names day.front.now day.from day.until day.begins day.line) }
+            → IsSameDay names latest (front_of text.now) day) }
     {
-        if !are_alike(before, text.as_bytes()) {
-            return None;
-        }
         let Request::At(_, nanoseconds) = request else {
             return None;
         };
-        let now = near_instant(*nanoseconds)?;
-        let (front, last) = text.split_at_checked(text.len().checked_sub(LAST)?)?;
+        let now = near_instant(*nanoseconds, latest)?;
+        let (_, last) = text.split_at_checked(text.len().checked_sub(LAST)?)?;
         let number = last_digits(last.as_bytes())?;
         let line = whole_line(shown)?;
         let around = Around::of(&zone.stretch_at((now / NANOS_PER_SECOND) as i64), now)?;
         let base = now - number;
         let from = around.from.max(base);
-        let until = around.until.min(base + LAST_NUMBERS);
+        let until = around.until.min(base + LAST_NUMBERS).min(latest);
         Some(SameDay {
-            front,
             from: from - base,
             until: until - base,
             begins: around.begins + (from - around.from),
@@ -76,30 +72,37 @@ impl<'r> SameDay<'r> {
         })
     }
 
-    /// Puts the line of a request into the text, in place of what is there, if it is one of these.
-    pub(crate) fn show(&self, request: &[u8], text: &mut Vec<u8>) -> Result<bool, AllocError>
+    /// Adds the line that answers a request to a text, without its LF, if it is one of these; `before` is the line of one of them.
+    ///
+    /// # Errors
+    ///
+    /// Want of memory alone. The text is as before then.
+    pub fn add(&self, before: &[u8], request: &[u8], text: &mut Vec<u8>) -> Result<bool, AllocError>
         requires { self.now.begins + self.now.until ≤ self.now.from + nanos_per_day }
-        ensures { IfOk result (λ has. IsTrue has → (names : List ℕ → Found)
-            → IsSameDay names self.now.front.now self.now.from self.now.until self.now.begins self.now.line
-            → IsAnswered names request.now text.new.items) }
+        ensures line { IfOk result (λ has. IsTrue has → (names : List ℕ → Found) (latest : ℕ) → IsSameDay names latest (front_of before.now) self.now
+            → IsAdded names latest request.now text.old.items text.new.items) }
+        ensures none { IfOk result (λ has. has ≡ false → text.new.items ≡ text.old.items) }
+        ensures err { OnErr result (text.new.items ≡ text.old.items) }
     {
-        let Some(last) = request.strip_prefix(self.front.as_bytes()) else {
+        if !are_alike(before, request) {
             return Ok(false);
-        };
-        let Some(number) = last_digits(last) else {
+        }
+        let Some(number) = last_digits(&request[request.len() - LAST..]) else {
             return Ok(false);
         };
         if number < self.from || self.until <= number {
             return Ok(false);
         }
-        text.clear();
         text.extend_from_slice(&at_time(&self.line, self.begins + (number - self.from)))?;
         Ok(true)
     }
 }
 
-/// Whether two requests may differ in the last digits alone.
-fn are_alike(one: &[u8], other: &[u8]) -> bool {
+/// Whether the lines of two requests are as long and may differ in the last fourteen bytes alone.
+pub fn are_alike(one: &[u8], other: &[u8]) -> bool
+    ensures front { IsTrue result → front_of one.now ≡ front_of other.now }
+    ensures long { IsTrue result → 14 ≤ length other.now }
+{
     if one.len() != other.len() || one.len() <= LAST {
         return false;
     }
@@ -131,11 +134,12 @@ fn whole_line(line: &[u8]) -> Option<[u8; 39]>
     Some(whole)
 }
 
-/// An instant, if it lies between the second of January 1970 and 2191.
-fn near_instant(nanoseconds: i128) -> Option<u64>
-    ensures { IfSome result (λ now. (nanoseconds ≡ pos now) × (100000000000000 ≤ now) × (now ≤ 7000000000000000000)) }
+/// An instant, if it lies between the second of January 1970 and the latest.
+fn near_instant(nanoseconds: i128, latest: u64) -> Option<u64>
+    requires { latest ≤ 7000000000000000000 }
+    ensures { IfSome result (λ now. (nanoseconds ≡ pos now) × (100000000000000 ≤ now) × (now < latest)) }
 {
-    if nanoseconds < i128::from(LAST_NUMBERS) || nanoseconds > LATEST {
+    if nanoseconds < i128::from(LAST_NUMBERS) || nanoseconds >= i128::from(latest) {
         None
     } else {
         Some(nanoseconds as u64)

@@ -1,9 +1,9 @@
 -- Which zones are read for a request of `zone_answers`, and what is told of one that is a fault. 2100 begins 4,102,444,800 seconds after
 -- 1970 by Python's `datetime`.
-use Rattle.std.{proofs.Common.{◌≡◌, ℕ, ℤ, List, [], ◌∷◌, ◌++◌, map, true, false, Some, None, Ok, Err, refl, pos, negsuc}, specs.Prelude.{codes}, specs.Str.{chars, is_utf8}}
+use Rattle.std.{proofs.Common.{◌≡◌, ℤ, List, [], ◌∷◌, ◌++◌, map, true, false, None, Err, refl, pos, negsuc}, specs.Prelude.{codes}, specs.Str.{chars, is_utf8}}
 use lib.Utf8.{encode}
-use Rattle.zone_answers.specs.{Faults.{has_dates}, Found.{Cause, bad_schedule, offset_range, rules_end}, Requests.{Request, at, local}}
-use Rattle.zone_serving.specs.Plain.{asked_answer, cause_words, found_answer, is_to_2099, plain_answer, plain_replies, shown_answer}
+use Rattle.zone_answers.specs.{Faults.{has_dates}, Found.{bad_schedule, offset_range, rules_end}, Requests.{Request, at, local}}
+use Rattle.zone_serving.specs.Plain.{asked_answer, found_answer, is_to_2099, plain_answer, plain_replies, shown_answer}
 use Rattle.zone_spans.specs.declared.fault.SpanFault.TheVariants.{DayRange}
 use Rattle.zone_table.specs.declared.table.Table.{Table}
 

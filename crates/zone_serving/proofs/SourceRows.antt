@@ -1,11 +1,10 @@
 -- What is told of sources, in words: each cause, and which line it is told of.
-use Rattle.std.{proofs.Common.{◌≡◌, refl, inl, inr, map, ℕ, Bool, true, false, List, [], ◌∷◌, ◌++◌}, specs.Prelude.{codes}, specs.Fmt.{digits}, specs.Prelude.{String}, specs.declared.alloc.Global.{Global}}
-use Rattle.sefunjaro.specs.declared.any_source.AnySourceFault.{AnySourceFault}
+use Rattle.std.{proofs.Common.{◌≡◌, refl, inl, inr, map, ℕ, Bool, true, false, List, [], ◌∷◌}, specs.Prelude.{codes}, specs.Fmt.{digits}, specs.Prelude.{String}, specs.declared.alloc.Global.{Global}}
 use Rattle.sefunjaro.specs.declared.any_source.AnySourceFault.TheVariants as source
 use Rattle.zone_plain_lines.specs.declared.cause.PlainCause.{PlainCause}
 use Rattle.zone_plain_lines.specs.declared.cause.PlainCause.TheVariants as plain
 use Rattle.zone_serving.specs.{Causes.{cause_words, form_words, join_words, kind_words, line_words}, Sources.{fault_words, is_compiled, HasFault, IsUnread}, Views.{schedule_words}, Wholes.{changes_words, file_words, tail_words, why_words}}
-use Rattle.zone_source.specs.declared.error.{BuildKind.{BuildKind}, SourceError.{SourceError}}
+use Rattle.zone_source.specs.declared.error.{BuildKind.{BuildKind}}
 use Rattle.zone_source.specs.declared.error.BuildKind.TheVariants as join
 use Rattle.zone_source.specs.declared.error.SourceError.TheVariants as error
 use Rattle.zone_spans.specs.declared.fault.SpanFault.{SpanFault}

@@ -1,10 +1,9 @@
 -- What a name finds, by what is seen of the zone that is opened.
-use Rattle.std.{proofs.Common.{◌≡◌, ℕ, List, Bool, Option, Some, None, option_map, Result, Ok, Err, true, false, refl, sym, ap, ◌∙◌, if◌then◌else◌, IsTrue, inl, inr}, specs.Prelude.{IfSome, ◌⊎◌}, specs.FinMap.{get}}
+use Rattle.std.{proofs.Common.{◌≡◌, ℕ, List, Bool, Option, Some, None, option_map, Ok, Err, true, false, refl, sym, ap, ◌∙◌, if◌then◌else◌, IsTrue, inl, inr}, specs.Prelude.{IfSome}, specs.FinMap.{get}}
 use Rattle.sefunjaro.specs.{Replies.{reply_view}, Zones.{GoesOnAs, IsOpened, ever_in, set_in}, declared.zone.OpenZone.{OpenZone}}
 use Rattle.tz_ever.specs.{EverShown.{ever_seen}, ForEver.{ever_years}, Opens.{DoesNotGoOn, IsFoundForEver, IsTooFarLater}, declared.ever_set.EverSet.{EverSet}}
-use Rattle.tz_zone.specs.{Compiles.{IsTooFar, IsZoneFault, compiled_in, compiled_in_over, spans_of}, Sets.{IsAccepted, schedule_of}, declared.compile.ZoneFault.{ZoneFault}, declared.set.FixedTimespanSet.{FixedTimespanSet}}
+use Rattle.tz_zone.specs.{Compiles.{IsTooFar, IsZoneFault, compiled_in, spans_of}, Sets.{IsAccepted, schedule_of}, declared.compile.ZoneFault.{ZoneFault}, declared.set.FixedTimespanSet.{FixedTimespanSet}}
 use Rattle.tz_zone.specs.declared.compile.ZoneFault.TheVariants as zone_fault
-use Rattle.zone_replies.specs.Views.{ZoneView}
 use Rattle.zone_spans.specs.{Compiled.{compiled, compiled_over}, GoesOn.{goes_on}, Lines.{Rulesets, zone_lines}, Schedules.{is_in_offset_range, totals_of}, declared.fault.SpanFault.{SpanFault}}
 use Rattle.zone_spans.specs.declared.span.FixedTimespanSet as spans
 use Rattle.zone_table.specs.{Resolved.{resolved_in}, declared.table.Table.{Table}, declared.zone.ZoneInfo.{ZoneInfo}}

@@ -1,19 +1,19 @@
 -- What is seen of zones of a few lines, as `zic` and Python's `zoneinfo` have them, and what is given of a zone as a whole.
-use Rattle.std.{proofs.Common.{◌≡◌, refl, map, ap, sym, ◌∙◌, inl, inr, ℕ, ℤ, pos, ◌*ℤ◌, Bool, true, false, List, [], ◌∷◌, ◌++◌, Option, Some, None}, proofs.lemmas.List.{map-id}, specs.Prelude.{Result, Ok, Err, codes}, specs.FinMap.{contains_key, get}}
+use Rattle.std.{proofs.Common.{◌≡◌, refl, map, inl, inr, ℕ, ℤ, pos, true, false, List, [], ◌∷◌, ◌++◌, Option, Some, None}, specs.Prelude.{Result, Ok, Err, codes}, specs.FinMap.{contains_key, get}}
 use Rattle.basics.specs.Days.{days_after_zero, year_start, days_through, days_into_year, day, is_leap, days_in_year, days_in_month}
 use Rattle.civil_base.specs.Instants.{seconds_of}
 use Rattle.sefunjaro.specs.{Changes.{settled_changes, span_before, window}, Replies.{span_on}}
 use Rattle.tz_ever.specs.{Ever.{ever_total}, Seam.{brought_back, cycles_past}, Unrolled.{again, entries_before, entries_from, unrolled_entries}}
 use Rattle.tz_zone.specs.declared.set.FixedTimespanSet.{FixedTimespanSet}
 use Rattle.zone_command.specs.Answers.{Answer}
-use Rattle.zone_displays.specs.{Edits.{is_one_edit}, Near.{near_names}, SeenNames.{NameSeen}, Unknown.{unknown_text}}
+use Rattle.zone_displays.specs.{Edits.{is_one_edit}, Near.{near_names}, Unknown.{unknown_text}}
 use Rattle.zone_replies.specs.Views.{InForce, ZoneView}
 use Rattle.zone_serving.specs.{Views.{entries_of, entry_of, ever_found, found_in, unknown_words, view_by, view_in, view_of}, Wholes.{IsStringOf, IsTreeOf, IsWhole, why_words}}
 use Rattle.zone_spans.specs.{Collapse.{collapsed, kept_of, kept_with, without_first}, Compiled.{compiled_over, set_of_lines_over}, Entries.{entries_from_over, entries_of_over, first_span, next_start_over, sorted_entries_over}}
 use Rattle.zone_spans.specs.{Faults.{leaves_year_over, schedule_fault_over}, Firings.{line_firings_over, years_over}, GoesOn.{front_of, goes_on, last_goes_on, last_of}, Lines.{Rulesets, zone_lines}, Schedules.{instants, total_at, totals_of}}
 use Rattle.zone_spans.specs.{Windows.{line_end}, declared.fault.SpanFault.TheVariants.{MissingUntil}, declared.span.FixedTimespan.{FixedTimespan}}
 use Rattle.zone_spans.specs.declared.span.FixedTimespanSet as spans
-use Rattle.zone_table.specs.{Formats.{abbreviation}, Moments.{instant_of}, declared.table.Table.{Table}, declared.zone.Format.TheVariants.{Constant}, declared.zone.Saving.{Saving}, declared.zone.Saving.TheVariants.{Multiple, NoSaving, OneOff}}
+use Rattle.zone_table.specs.{Formats.{abbreviation}, Moments.{instant_of}, declared.table.Table.{Table}, declared.zone.Format.TheVariants.{Constant}, declared.zone.Saving.{Saving}, declared.zone.Saving.TheVariants.{NoSaving, OneOff}}
 use Rattle.zone_table.specs.declared.zone.ZoneInfo.{ZoneInfo}
 use Rattle.zone_tree.specs.declared.refusal.Why.{Why}
 use Rattle.zone_values.specs.{Days.{is_in_year, named_day}, declared.change.ChangeTime.{ChangeTime}, declared.change.ChangeTime.TheVariants.{UntilTime, UntilYear}, declared.day.DaySpec.TheVariants.{Ordinal}, declared.month.Month.TheVariants.{January}}

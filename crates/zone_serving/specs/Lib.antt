@@ -1,4 +1,5 @@
 -- Definitions: what public clauses say.
+pub mod Days
 pub mod Kept
 pub mod KeptLaws
 pub mod Requests

@@ -1,5 +1,5 @@
 -- A request is answered with the bytes of `zone_answers`, by the zones that are read for it.
-use Rattle.std.{proofs.Common.{◌≡◌, ℕ, ℤ, Bool, true, false, cond, List, [], Option, Some, None, MatchOption, Ok, Err, refl, sym, subst}, specs.Option.{option_map_or}, specs.Prelude.{codes}, specs.Str.{is_utf8}}
+use Rattle.std.{proofs.Common.{◌≡◌, ℕ, Bool, true, false, cond, List, [], Option, Some, None, MatchOption, Ok, Err, refl, sym, subst}, specs.Option.{option_map_or}, specs.Prelude.{codes}, specs.Str.{is_utf8}}
 use Rattle.zone_answers.specs.{Due.{answer_line, answer_text, shown_at, shown_for, shown_found}, Faults.{Fault, bad_request, range, request_not_text, found_refusal, has_dates, request_refusal}, Found.{Found, found_in_table}}
 use Rattle.zone_answers.specs.Requests.{Request, name_of, request_of}
 use Rattle.zone_command.specs.{Answers.{Answer}, Refusals.{fault_words, name_words}}

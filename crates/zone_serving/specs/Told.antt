@@ -11,6 +11,6 @@ IsRequest request (Err (Why words)) = request ≡ Err words.items
 IsRequest request (Err NoMemory) = Unit {0}
 
 -- the text is the answer; or the words are why there is none, or memory ran out
-abbrev pub IsPut : Answer → List ℕ → Result (Unit {0}) Refusal → Type 0
+abbrev pub IsPut : {A : Type 0} → Answer → List ℕ → Result A Refusal → Type 0
 IsPut answer text (Ok done) = answer ≡ Ok text
 IsPut answer text (Err refusal) = IsTold (λ words. answer ≡ Err words) refusal

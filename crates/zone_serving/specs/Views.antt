@@ -1,5 +1,5 @@
 -- What is seen of the zone that a name finds in a table, or why there is none to ask.
-use Rattle.std.specs.{Prelude.{◌≡◌, ℕ, ℤ, pos, List, map, Bool, Option, Some, None, Result, Ok, Err, codes, if◌then◌else◌}, FinMap.{contains_key, get}}
+use Rattle.std.specs.{Prelude.{◌≡◌, ℕ, ℤ, pos, List, map, Option, Some, None, Result, Ok, Err, codes, if◌then◌else◌}, FinMap.{contains_key, get}}
 use Rattle.sefunjaro.specs.{Changes.{window}, Replies.{differing, force_of, span_on}}
 use Rattle.tz_ever.specs.{Ever.{ever_total}, ForEver.{ever_years}, Unrolled.{unrolled}}
 use Rattle.tz_lookup.specs.Databases.{names_of}

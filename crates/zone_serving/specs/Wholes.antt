@@ -1,5 +1,5 @@
 -- What is given of a zone as a whole, its file and its string, and of all zones, the tree.
-use Rattle.std.specs.Prelude.{◌≡◌, ◌⊎◌, ℕ, ℤ, List, [], ◌∷◌, ◌++◌, Option, Some, None, Result, Ok, Err, codes}
+use Rattle.std.specs.Prelude.{◌≡◌, ◌⊎◌, ℕ, ℤ, List, [], ◌∷◌, ◌++◌, Option, Some, None, Ok, Err, codes}
 use Rattle.tz_zone.specs.declared.set.FixedTimespanSet.{FixedTimespanSet}
 use Rattle.zone_command.specs.{Answers.{Answer}, Refusals.{name_words}}
 use Rattle.zone_serving.specs.Views.{ever_found, found_in, range_words, schedule_words}

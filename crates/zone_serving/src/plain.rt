@@ -1,9 +1,9 @@
 //! Requests of `zone_answers`, answered as they come: to 2099 as that program does, from 2100 on by what goes on for ever.
-ghost use Rattle.std.specs.Prelude.{◌≡◌, Err};
+ghost use Rattle.std.specs.Prelude.{◌≡◌, ℕ, List, Ok, Err, OnErr, OnOk};
 ghost use Rattle.sefunjaro.specs.Sources.{table_in};
-ghost use Rattle.zone_answers.specs.{Asked.{asked}, Faults.{zone_refusal}, Found.{Found}, Requests.{IsSpelled}, Told.{TellsReading}};
+ghost use Rattle.zone_answers.specs.{Asked.{asked}, AskedLaws.{Asks}, Faults.{zone_refusal}, Found.{Found, found_in_table, to_2099}, Requests.{IsSpelled, name_of, request_of}, Told.{TellsReading}};
 ghost use Rattle.zone_command.specs.Refusals.{IsTold};
-ghost use Rattle.zone_serving.specs.{Kept.{AreOf}, KeptLaws.{AreOf-prop}, Plain.{found_answer, is_to_2099, read_answer, shown_answer}, Told.{IsPut}};
+ghost use Rattle.zone_serving.specs.{Days.{IsDayOf}, Kept.{AreOf}, KeptLaws.{AreOf-prop, IsDayOf-prop}, Plain.{found_answer, is_to_2099, read_answer, shown_answer}, Told.{IsPut}};
 
 use crate::source::unknown_words;
 use crate::source_words::schedule_words;
@@ -11,13 +11,18 @@ use crate::words::refused;
 use sefunjaro::OpenSource;
 use std::alloc::{AllocError, Global};
 use tz_lookup::CompactSet;
-use zone_answers::{AnswerError, OpenedZone, ReadingError, Request, Spelled, Zones};
+use zone_answers::{
+    AnswerError, OpenedZone, ReadingError, Request, SameDay, Spelled, Zones, are_alike,
+};
 use zone_command::{Refusal, refusal_of};
 use zone_ever::EverZone;
 use zone_pieces::Responder;
 
 /// 2100-01-01 00:00:00, in nanoseconds.
 const YEAR_2100: i128 = 4_102_444_800_000_000_000;
+
+/// The same, as the latest of requests that are answered by another.
+const YEAR_2100_NANOS: u64 = 4_102_444_800_000_000_000;
 
 /// Whether the instant by UTC, or the local time, lies before that.
 fn is_to_2099(request: &Request<'_>) -> bool
@@ -60,23 +65,48 @@ fn refusal_for(
     }
 }
 
-/// Puts the answer to a request of a zone into a text, in place of what is there.
+/// A request, its line, and whether it may be of the day of the one before.
+#[derive(Clone, Copy)]
+struct Line<'l> {
+    text: &'l str,
+    spelled: &'l Spelled<'l>,
+    is_alike: bool,
+}
+
+/// The text of an answer, and the requests that it answers but for the time of day.
+#[derive(Drop)]
+struct Reply {
+    text: Vec<u8>,
+    day: Option<SameDay>,
+}
+
+/// Puts the answer to a request of a zone into a reply, in place of what is there.
 #[tactic(auto, unfolding(crate::specs::Plain::shown_answer))]
 fn show<Z: OpenedZone>(
     alloc: Global,
     zone: &Z,
-    spelled: &Spelled<'_>,
-    text: &mut Vec<u8>,
+    line: &Line<'_>,
+    reply: &mut Reply,
 ) -> Result<(), Refusal>
-    requires { IsSpelled (asked spelled.now.request) spelled.now.value.now }
-    ensures { IsPut (shown_answer (asked spelled.now.request) (Z.total_at zone.now)) text.new.items result }
+    requires { IsSpelled (asked line.now.spelled.now.request) line.now.spelled.now.value.now }
+    ensures answer { IsPut (shown_answer (asked line.now.spelled.now.request) (Z.total_at zone.now)) reply.new.text.items result }
+    ensures day { OnOk result ((names : List ℕ → Found) → Asks request_of line.now.text.now (asked line.now.spelled.now.request)
+        → names (name_of (asked line.now.spelled.now.request)) ≡ Ok (Z.total_at zone.now) → IsDayOf names line.now.text.now reply.new.day) }
+    ensures kept { OnErr result (reply.new.day ≡ reply.old.day) }
 {
-    text.clear();
-    match zone.show_spelled(&spelled.request, spelled.value.as_bytes(), text) {
-        Ok(true) => Ok(()),
+    let request = &line.spelled.request;
+    reply.text.clear();
+    match zone.show_spelled(request, line.spelled.value.as_bytes(), &mut reply.text) {
+        Ok(true) => {
+            reply.day = None;
+            if line.is_alike {
+                reply.day = SameDay::of(zone, line.text, request, &reply.text, YEAR_2100_NANOS);
+            }
+            Ok(())
+        }
         Ok(false) => Err(refusal_of(
             alloc,
-            spelled.request.name(),
+            request.name(),
             b"a date lies outside the years -9999 to 9999",
         )),
         Err(_) => Err(Refusal::NoMemory),
@@ -88,17 +118,20 @@ fn answer<Z: OpenedZone>(
     alloc: Global,
     source: &OpenSource,
     zones: &mut Zones<'_, '_, Z>,
-    spelled: &Spelled<'_>,
-    text: &mut Vec<u8>,
+    line: &Line<'_>,
+    reply: &mut Reply,
 ) -> Result<(), Refusal>
-    requires spelled { IsSpelled (asked spelled.now.request) spelled.now.value.now }
+    requires spelled { IsSpelled (asked line.now.spelled.now.request) line.now.spelled.now.value.now }
+    requires asks { Asks request_of line.now.text.now (asked line.now.spelled.now.request) }
     requires known { AreOf Z.OpenedZone (table_in source.now) zones.old }
     ensures known { AreOf Z.OpenedZone (table_in source.now) zones.new }
-    ensures answer { IsPut (read_answer Z.read (table_in source.now) (asked spelled.now.request)) text.new.items result }
+    ensures answer { IsPut (read_answer Z.read (table_in source.now) (asked line.now.spelled.now.request)) reply.new.text.items result }
+    ensures day { OnOk result (IsDayOf (found_in_table Z.read (table_in source.now)) line.now.text.now reply.new.day) }
+    ensures kept { OnErr result (reply.new.day ≡ reply.old.day) }
 {
-    match zones.place_for(spelled.request.name(), 1) {
-        Ok(place) => show(alloc, zones.zone_at(place), spelled, text),
-        Err(error) => Err(refusal_for(alloc, source, &spelled.request, error)),
+    match zones.place_for(line.spelled.request.name(), 1) {
+        Ok(place) => show(alloc, zones.zone_at(place), line, reply),
+        Err(error) => Err(refusal_for(alloc, source, &line.spelled.request, error)),
     }
 }
 
@@ -108,17 +141,21 @@ pub(crate) struct PlainStream<'s> {
     source: &'s OpenSource,
     today: Zones<'s, 's, CompactSet>,
     ever: Zones<'s, 's, EverZone>,
-    text: Vec<u8>,
+    // the line of the request to 2099 that was answered last by itself
+    before: Vec<u8>,
+    reply: Reply,
     alloc: Global,
     ghost of_today: { AreOf ⟦<CompactSet as OpenedZone>⟧ (table_in source.now) today } by { AreOf-prop _ _ today },
     ghost of_ever: { AreOf ⟦<EverZone as OpenedZone>⟧ (table_in source.now) ever } by { AreOf-prop _ _ ever },
+    ghost of_day: { IsDayOf (found_in_table to_2099 (table_in source.now)) before.items reply.day } by { IsDayOf-prop _ _ reply.day },
 }
 
 impl<'s> PlainStream<'s> {
-    ghost use Rattle.std.specs.Prelude.{◌≡◌, Some};
+    ghost use Rattle.std.specs.Prelude.{◌≡◌, IfOk, IsTrue, None, Ok, Some, false};
     ghost use Rattle.sefunjaro.specs.Sources.{table_in};
-    ghost use Rattle.zone_answers.specs.{Asked.{asked}, Requests.{IsSpelled, request_of}};
-    ghost use Rattle.zone_serving.specs.{Plain.{asked_answer, plain_answer, plain_replies}, Told.{IsPut}};
+    ghost use Rattle.zone_answers.specs.{Asked.{asked}, AskedLaws.{Asks}, Found.{found_in_table, to_2099}, Requests.{IsSpelled, request_of}, SameDays.{IsAdded}};
+    ghost use Rattle.zone_ever.specs.Readings.{for_ever};
+    ghost use Rattle.zone_serving.specs.{Days.{IsDayOf}, Plain.{asked_answer, plain_answer, plain_replies, read_answer}, Told.{IsPut}};
 
     /// What answers over that source. It takes no memory.
     pub(crate) fn new(alloc: Global, source: &'s OpenSource) -> PlainStream<'s>
@@ -128,51 +165,112 @@ impl<'s> PlainStream<'s> {
             source,
             today: Zones::new(alloc, source.table()),
             ever: Zones::new(alloc, source.table()),
-            text: Vec::new(alloc),
+            before: Vec::new(alloc),
+            reply: Reply {
+                text: Vec::new(alloc),
+                day: None,
+            },
             alloc,
         }
     }
 
-    /// Puts the answer to a request into the text.
-    fn answer(&mut self, spelled: &Spelled<'_>) -> Result<(), Refusal>
-        requires { IsSpelled (asked spelled.now.request) spelled.now.value.now }
+    /// Keeps the line of a request that was answered by itself. It is of no day yet.
+    fn keep(&mut self, text: &str) -> Result<(), AllocError>
+        requires { self.old.reply.day ≡ None }
         ensures source { self.new.source.now ≡ self.old.source.now }
-        ensures answer { IsPut (asked_answer (table_in self.old.source.now) (Some (asked spelled.now.request))) self.new.text.items result }
+        ensures text { self.new.reply.text.items ≡ self.old.reply.text.items }
     {
-        if is_to_2099(&spelled.request) {
-            answer(
-                self.alloc,
-                self.source,
-                &mut self.today,
-                spelled,
-                &mut self.text,
-            )
-        } else {
-            answer(
-                self.alloc,
-                self.source,
-                &mut self.ever,
-                spelled,
-                &mut self.text,
-            )
+        self.before.clear();
+        self.before.extend_from_slice(text.as_bytes())?;
+        Ok(())
+    }
+
+    /// Replies to a request to 2099, and keeps its line.
+    fn answer_today<'t>(&mut self, text: &'t str, spelled: &'t Spelled<'t>) -> Result<(), Refusal>
+        requires spelled { IsSpelled (asked spelled.now.request) spelled.now.value.now }
+        requires asks { Asks request_of text.now (asked spelled.now.request) }
+        ensures source { self.new.source.now ≡ self.old.source.now }
+        ensures answer { IsPut (read_answer to_2099 (table_in self.old.source.now) (asked spelled.now.request)) self.new.reply.text.items result }
+    {
+        let is_alike = are_alike(&self.before, text.as_bytes());
+        let line = Line {
+            text,
+            spelled,
+            is_alike,
+        };
+        match answer(
+            self.alloc,
+            self.source,
+            &mut self.today,
+            &line,
+            &mut self.reply,
+        ) {
+            Ok(()) if is_alike => Ok(()),
+            Ok(()) => {
+                self.reply.day = None;
+                match self.keep(text) {
+                    Ok(()) => Ok(()),
+                    Err(_) => Err(Refusal::NoMemory),
+                }
+            }
+            Err(refusal) => Err(refusal),
         }
     }
 
-    /// Puts the answer to a text into the text.
+    /// Replies to a later one.
+    fn answer_ever<'t>(&mut self, text: &'t str, spelled: &'t Spelled<'t>) -> Result<(), Refusal>
+        requires spelled { IsSpelled (asked spelled.now.request) spelled.now.value.now }
+        requires asks { Asks request_of text.now (asked spelled.now.request) }
+        ensures source { self.new.source.now ≡ self.old.source.now }
+        ensures answer { IsPut (read_answer for_ever (table_in self.old.source.now) (asked spelled.now.request)) self.new.reply.text.items result }
+    {
+        let line = Line {
+            text,
+            spelled,
+            is_alike: false,
+        };
+        match answer(
+            self.alloc,
+            self.source,
+            &mut self.ever,
+            &line,
+            &mut self.reply,
+        ) {
+            Ok(()) => {
+                self.reply.day = None;
+                Ok(())
+            }
+            Err(refusal) => Err(refusal),
+        }
+    }
+
+    /// Replies to a text.
     fn answer_text(&mut self, text: &str) -> Result<(), Refusal>
         ensures source { self.new.source.now ≡ self.old.source.now }
-        ensures answer { IsPut (asked_answer (table_in self.old.source.now) (request_of text.now)) self.new.text.items result }
+        ensures answer { IsPut (asked_answer (table_in self.old.source.now) (request_of text.now)) self.new.reply.text.items result }
     {
         match Spelled::read(text) {
-            Some(spelled) => self.answer(&spelled),
+            Some(spelled) if is_to_2099(&spelled.request) => self.answer_today(text, &spelled),
+            Some(spelled) => self.answer_ever(text, &spelled),
             None => Err(refused(self.alloc, FORM)),
         }
     }
 
-    /// Puts the answer to a line into the text.
+    /// Adds the answer to a line to the output, if it asks what differs from the one before in the time of a day alone.
+    fn answer_again(&self, line: &[u8], output: &mut Vec<u8>) -> Result<bool, AllocError>
+        ensures answer { IfOk result (λ has. IsTrue has → IsAdded (found_in_table to_2099 (table_in self.now.source.now)) 4102444800000000000 line.now output.old.items output.new.items) }
+        ensures none { IfOk result (λ has. has ≡ false → output.new.items ≡ output.old.items) }
+    {
+        match &self.reply.day {
+            Some(day) => day.add(&self.before, line, output),
+            None => Ok(false),
+        }
+    }
+
+    /// Replies to a line.
     fn answer_line(&mut self, line: &[u8]) -> Result<(), Refusal>
         ensures source { self.new.source.now ≡ self.old.source.now }
-        ensures answer { IsPut (plain_answer (table_in self.old.source.now) line.now) self.new.text.items result }
+        ensures answer { IsPut (plain_answer (table_in self.old.source.now) line.now) self.new.reply.text.items result }
     {
         match std::str::from_utf8(line) {
             Ok(text) => self.answer_text(text),
@@ -191,9 +289,13 @@ impl Responder for PlainStream<'_> {
     ghost replies = { λ s. plain_replies (table_in s.source.now) };
 
     fn respond(&mut self, request: &[u8], output: &mut Vec<u8>) -> Result<bool, AllocError> {
+        if self.answer_again(request, output)? {
+            output.push(b'\n')?;
+            return Ok(false);
+        }
         match self.answer_line(request) {
             Ok(()) => {
-                output.extend_from_slice(&self.text)?;
+                output.extend_from_slice(&self.reply.text)?;
                 output.push(b'\n')?;
                 Ok(false)
             }

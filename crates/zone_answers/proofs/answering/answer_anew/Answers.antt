@@ -1,5 +1,5 @@
 use Rattle.std.proofs.{Common.{◌≡◌, cond, None, Ok, Some, subst, sym, ap, ◌∙◌}, lemmas.Option.{IfSome_then}, lemmas.Result.{err_from_is_err_and}}
-use Rattle.zone_answers.specs.{Asked.{asked}, AskedLaws.{Asks, asks}, Faults.{range}, Found.{found_in_table}, Opened.{IsOpened, table_of}, Requests.{name_of, request_of}}
+use Rattle.zone_answers.specs.{Asked.{asked}, AskedLaws.{Asks, asks}, Faults.{range}, Found.{found_in_table}, Opened.{table_of}, Requests.{name_of, request_of}}
 use Rattle.zone_answers.proofs.{ReadBackLemmas.{line_back}, RefusalLemmas.{not_text_refused, bad_request_refused, refusal_is, dates_are, line_is, zone_refused}, ZoneLemmas.{placed_there, placed_within}}
 use Rattle.zone_answers.proofs.answering.answer_anew.Goals as goal
 
@@ -71,7 +71,7 @@ keep-requires-clause-day g c =
     let there = placed_there _ c.place_of.new.self.opened c.in_ok-place.place _ c.zone_at-zone.ensures c.in_ok-place.ensures.placed in
     let found = rw c.name.ensures at there in
     let read = g.Z.OpenedZone.read in
-    IfSome_then c.after-day.result c.after-day.ensures (λ day law.
+    IfSome_then c.of-day.result c.of-day.ensures (λ day law.
     law (found_in_table read (table_of c.place_of.new.self)) (subst (λ t. Asks request_of t (asked request)) (sym text.0) reads)
     (subst (λ table. found_in_table read table (name_of (asked request)) ≡ Ok (g.Z.OpenedZone.total_at c.zone_at-zone.result.now)) (sym c.in_ok-place.ensures.same) found)
     (c.deref.ensures.value ∙ c.in_ok-show_line.ensures.text) c.show_line.ensures.range)

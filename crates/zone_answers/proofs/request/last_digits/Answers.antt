@@ -1,4 +1,4 @@
-use Rattle.std.proofs.{Common.{◌≡◌, ◌<◌, ◌^◌, ◌∙◌, ◌&&◌, ap, arith, length, nat_le, nat_lt, subst, sym}, lemmas.Bool.{and_parts}, lemmas.Int.Digits.{digits_value-lt}, lemmas.List.{take_all}}
+use Rattle.std.proofs.{Common.{◌<◌, ◌^◌, ◌∙◌, ◌&&◌, ap, arith, length, nat_le, nat_lt, subst, sym}, lemmas.Bool.{and_parts}, lemmas.Int.Digits.{digits_value-lt}, lemmas.List.{take_all}}
 use Rattle.std.specs.Str.Parse.{digits_value}
 use Rattle.zone_answers.proofs.RequestLemmas.{digits_from}
 use Rattle.zone_answers.proofs.request.last_digits.Goals as goal

@@ -1,4 +1,3 @@
-use Rattle.std.proofs.Common.{ap}
 use Rattle.zone_answers.{proofs.ZoneLemmas.{each_kept, each_stays, last_stays, stands_last}, specs.Opened.{IsOpened}}
 use Rattle.zone_answers.proofs.opened.Zones.open_stem.Goals as goal
 

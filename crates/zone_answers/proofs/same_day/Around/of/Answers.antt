@@ -1,4 +1,4 @@
-use Rattle.std.proofs.{Common.{◌≡◌, ◌+◌, ◌-◌, ◌*◌, ◌/◌, ◌%◌, ◌≤◌, ℕ, ℤ, pos, ◌≤ℤ◌, SFits, rules, w32, w64, sym, ap, ◌∙◌, subst, arith}, lemmas.Int.{ints, to_z-of_z}}
+use Rattle.std.proofs.{Common.{◌≡◌, pos, ◌≤ℤ◌, SFits, rules, w32, w64, ap, ◌∙◌, subst, arith}, lemmas.Int.{ints, to_z-of_z}}
 use Rattle.civil_base.specs.Instants.{local_at, nanos_of}
 use Rattle.zone_answers.proofs.SameDayLemmas.{time_of}
 use Rattle.zone_answers.proofs.same_day.Around.of.Goals as goal

@@ -6,7 +6,7 @@ use Rattle.zone_serving.proofs.plain.PlainStream.answer_line.Goals as goal
 
 pub returns-in-Ok-clause-answer : goal.returns-in-Ok-clause-answer
 returns-in-Ok-clause-answer c =
-    let P : Answer → Type 0 = λ answer. IsPut answer c.answer_text.new.self.text.items c.answer_text.result in
+    let P : Answer → Type 0 = λ answer. IsPut answer c.answer_text.new.self.reply.text.items c.answer_text.result in
     subst P (plain_text (table_in c.args.self.now.source.now) c.args.line.now c.in-Ok.text.now c.in-Ok.ensures.cases.0 c.in-Ok.ensures.cases.1)
     c.answer_text.ensures.answer
 
