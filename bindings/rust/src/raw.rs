@@ -184,23 +184,9 @@ extern "C" {
     pub fn sefunjaro_years_by(copy: *mut RawHandle, last: *mut i32) -> u32;
     pub fn sefunjaro_next_change_by(copy: *mut RawHandle, second: i64, change: *mut crate::Change) -> u32;
     pub fn sefunjaro_ring_by(copy: *mut RawHandle, local: *const crate::Clock, ring: *mut RawReading) -> u32;
-    pub fn sefunjaro_tail_by(
-        copy: *mut RawHandle,
-        text: *mut u8,
-        room: usize,
-        whole: *mut usize,
-        is_posix: *mut bool,
-        fault: *mut RawFault,
-    ) -> u32;
+    pub fn sefunjaro_tail_by(copy: *mut RawHandle, text: *mut u8, room: usize, whole: *mut usize, is_posix: *mut bool, fault: *mut RawFault) -> u32;
     pub fn sefunjaro_tzif_by(copy: *mut RawHandle, file: *mut u8, room: usize, whole: *mut usize, fault: *mut RawFault) -> u32;
-    pub fn sefunjaro_tail_for_ever_by(
-        copy: *mut RawHandle,
-        text: *mut u8,
-        room: usize,
-        whole: *mut usize,
-        is_posix: *mut bool,
-        fault: *mut RawFault,
-    ) -> u32;
+    pub fn sefunjaro_tail_for_ever_by(copy: *mut RawHandle, text: *mut u8, room: usize, whole: *mut usize, is_posix: *mut bool, fault: *mut RawFault) -> u32;
     pub fn sefunjaro_tzif_for_ever_by(copy: *mut RawHandle, file: *mut u8, room: usize, whole: *mut usize, fault: *mut RawFault) -> u32;
     pub fn sefunjaro_version(text: *mut u8, room: usize, whole: *mut usize, years: *mut RawYears);
 }

@@ -7,18 +7,18 @@ use sefunjaro::{
 use std::time::{Duration, SystemTime, UNIX_EPOCH};
 use std::{fs, thread};
 
-const SOURCE: &str = "\
-Rule Mid 1900 only - Jan 1 0:00 0 -
-Rule Mid 1981 max - Mar lastSun 1:00u 1:00 S
-Rule Mid 1996 max - Oct lastSun 1:00u 0 -
-Zone Here/Middle 1:00 Mid CE%sT
-Zone Here/Far 25:00 - FAR
-Zone Here/Long 1:00 - AbbreviationOfTwentySix
-Zone Here/Twice 0:00 - A 2000 Jan 1 2:00
-  -1:00 - B 2000 Jan 1 1:30
-  -2:00 - C
-Link Here/Middle There/Middle
-";
+const SOURCE: &str = concat!(
+    "Rule Mid 1900 only - Jan 1 0:00 0 -\n",
+    "Rule Mid 1981 max - Mar lastSun 1:00u 1:00 S\n",
+    "Rule Mid 1996 max - Oct lastSun 1:00u 0 -\n",
+    "Zone Here/Middle 1:00 Mid CE%sT\n",
+    "Zone Here/Far 25:00 - FAR\n",
+    "Zone Here/Long 1:00 - AbbreviationOfTwentySix\n",
+    "Zone Here/Twice 0:00 - A 2000 Jan 1 2:00\n",
+    "  -1:00 - B 2000 Jan 1 1:30\n",
+    "  -2:00 - C\n",
+    "Link Here/Middle There/Middle\n",
+);
 /// 2024-03-31 and 2024-10-27, 01:00 UTC.
 const SPRING: i64 = 1711846800;
 const AUTUMN: i64 = 1729990800;
@@ -243,14 +243,14 @@ fn changes() {
 /// In the spring of 1997 a line of Georgia says again what holds, and in 1998 the abbreviation alone is another.
 #[test]
 fn changes_of_nothing() {
-    let text = "\
-Rule E 1981 max - Mar lastSun 0:00 1:00 -
-Rule E 1996 max - Oct lastSun 0:00 0 -
-Zone Asia/Tbilisi 4:00 E +04/+05 1996 Oct lastSun
- 4:00 1:00 +05 1997 Mar lastSun
- 4:00 E +04/+05 1998 Jan 1
- 4:00 - GET
-";
+    let text = concat!(
+        "Rule E 1981 max - Mar lastSun 0:00 1:00 -\n",
+        "Rule E 1996 max - Oct lastSun 0:00 0 -\n",
+        "Zone Asia/Tbilisi 4:00 E +04/+05 1996 Oct lastSun\n",
+        " 4:00 1:00 +05 1997 Mar lastSun\n",
+        " 4:00 E +04/+05 1998 Jan 1\n",
+        " 4:00 - GET\n",
+    );
     let zone = Source::open(text.as_bytes()).unwrap().zone("Asia/Tbilisi").unwrap();
     let nothing = Change { second: 859662000, offset: 18000, saving: 3600, name_length: 3, differs: false };
     let autumn = Change { second: 877806000, offset: 14400, saving: 0, name_length: 3, differs: true };

@@ -3,18 +3,4 @@
 #![tactic(auto)]
 
 #[cfg(test)]
-mod checks;
-#[cfg(test)]
-mod dates;
-#[cfg(test)]
-mod items;
-#[cfg(test)]
-mod moments;
-#[cfg(test)]
-mod owned_values;
-#[cfg(test)]
-mod padding;
-#[cfg(test)]
-mod parts;
-#[cfg(test)]
-mod pieces;
+mod tests;

@@ -1,10 +1,11 @@
 -- Why a source or a zone isn't opened, in numbers.
-use Rattle.std.specs.{Prelude.{◌≡◌, ◌+◌, ◌%◌, ◌<◌, ◌⊎◌, ℕ, List, length, nat_lt, Option, Some, None, option_map, if◌then◌else◌}, Str.{is_utf8}}
+use Rattle.std.specs.{Prelude.{◌≡◌, ◌+◌, ◌<◌, ◌⊎◌, ℕ, List, length, nat_lt, Option, Some, None, option_map, if◌then◌else◌}, Str.{is_utf8}}
 use denote.Enum.Declared.{tag_of as place_among}
 use Rattle.zone_values.specs.{contracts.fault.FaultKind.{the_type as kinds}, declared.fault.FaultKind.{FaultKind}}
 use Rattle.zone_source.specs.{Faults.{SourceFault, source_fault}, Told.{told_by_source}, contracts.error.BuildKind.{the_type as joins}, declared.error.BuildKind.{BuildKind}, declared.error.SourceError.{SourceError}}
 use Rattle.zone_source.specs.Faults as source
 use Rattle.zone_spans.specs.{contracts.fault.SpanFault.{the_type as schedule_faults}, declared.fault.SpanFault.{SpanFault}}
+use Rattle.zone_spans.specs.declared.fault.SpanFault.TheVariants as span
 use Rattle.zone_table.specs.declared.table.Table.{Table}
 use Rattle.tz_zone.specs.declared.compile.ZoneFault.{ZoneFault}
 use Rattle.tz_zone.specs.declared.compile.ZoneFault.TheVariants as zone
@@ -26,9 +27,10 @@ kind_number kind = place_among kinds kind + 1
 abbrev pub join_number : BuildKind → ℕ
 join_number kind = place_among joins kind + 1
 
--- the cause of a zone without a schedule; 0 for want of memory, the last of them
+-- the cause of a zone without a schedule, from 1 in the order of the variants; 0 for want of memory
 abbrev pub schedule_number : SpanFault → ℕ
-schedule_number fault = (place_among schedule_faults fault + 1) % 7
+schedule_number span.NoMemory = 0
+schedule_number fault = place_among schedule_faults fault + 1
 
 abbrev pub fault_told : SourceFault → Fault
 fault_told (source.not_text n) = record { status = not_text; cause = 0; line = n }

@@ -1,9 +1,10 @@
 -- What is opened.
-use Rattle.std.specs.Prelude.{◌≡◌, ℕ, List, None}
+use Rattle.std.specs.Prelude.{◌≡◌, ℕ, List, None, IfSome}
 use Rattle.zone_table.specs.{Tables.{IsTableOf}, declared.table.Table.{Table}}
 use Rattle.zone_source.specs.{Releases.{release_of}, Zones.{values_of}}
 use Rattle.tz_zone.specs.{Compiles.{compiled_in}, Sets.{schedule_of, IsAccepted}}
 use Rattle.sefunjaro.specs.{Sources.{table_in, release_in}, Zones.{ever_in, set_in, GoesOnAs, IsAsCompiled, IsOpened}, declared.source.OpenSource.{OpenSource}, declared.zone.OpenZone.{OpenZone}}
+use Rattle.sefunjaro_handles.specs.declared.view.View.{View}
 use Rattle.sefunjaro_c.specs.Faults.{source_due}
 
 -- the source is that of a text with no fault, with the release that the text names
@@ -18,3 +19,7 @@ pub record IsZoneOf (table : Table) (name : List ℕ) (zone : OpenZone) : Type 0
   pub accepted : IsAccepted (schedule_of (set_in zone))
   pub goes_on : GoesOnAs table name (ever_in zone)
   pub as_compiled : IsAsCompiled zone
+
+-- a view lends what it lent before, if anything
+abbrev pub StaysLent : View → View → Type 0
+StaysLent old new = (new.part.opened ≡ old.part.opened) × IfSome old.part.opened (λ _. new.part.loan ≡ old.part.loan)

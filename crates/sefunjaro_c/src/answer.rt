@@ -1,8 +1,8 @@
 //! All that a zone says of an instant, in one call.
-ghost use Rattle.std.specs.Prelude.{◌≡◌, IfSome};
+ghost use Rattle.std.specs.Prelude.{◌≡◌};
 ghost use Rattle.civil_base.specs.DateTimes.{instant};
 ghost use Rattle.sefunjaro.specs.{Answers.{IsAnswer, TellsSaving, TellsUntil}, Any.{Seen}};
-ghost use Rattle.sefunjaro_c.specs.{Answers.{is_shown, Where, Within}, Times.{is_instant, nanos_at}};
+ghost use Rattle.sefunjaro_c.specs.{Answers.{is_shown, Where, Within}, Times.{is_instant, nanos_at}, Opened.{StaysLent}};
 ghost use Rattle.sefunjaro_handles.specs.{Held.{OfZone, OnZone}, Statuses.{done, IfRefused}};
 
 use crate::fault::{DONE, NOT_OPEN, OUT_OF_RANGE};
@@ -20,8 +20,7 @@ pub extern "C" fn sefunjaro_answer_at_by(
     answer: &mut Answer,
     name: &mut [u8],
 ) -> u32
-    ensures same { zone.new.part.opened ≡ zone.old.part.opened }
-    ensures loan { IfSome zone.old.part.opened (λ _. zone.new.part.loan ≡ zone.old.part.loan) }
+    ensures lent { StaysLent zone.old zone.new }
     ensures answer { OnZone zone.old.part.opened result (name.new ≡ name.old)
         (λ held. Within (is_instant second nanosecond) result (name.new ≡ name.old) (Seen held (λ total gives.
         Where (is_shown total (nanos_at second nanosecond)) result (name.new ≡ name.old)

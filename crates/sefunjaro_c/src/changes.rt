@@ -1,6 +1,6 @@
 //! The saving and the changes of a zone, the ring of a daily alarm, and the last year up to whose end a zone says what is in force.
-ghost use Rattle.std.specs.Prelude.{◌≡◌, IfSome};
-ghost use Rattle.sefunjaro_c.specs.{Answers.{Where}, Changes.{AreChanges, IsFound, IsRing}, Times.{is_instant}};
+ghost use Rattle.std.specs.Prelude.{◌≡◌};
+ghost use Rattle.sefunjaro_c.specs.{Answers.{Where}, Changes.{AreChanges, IsFound, IsRing}, Times.{is_instant}, Opened.{StaysLent}};
 ghost use Rattle.sefunjaro_handles.specs.{Held.{OfKept, OfZone, OnZone}, Statuses.{IfRefused}};
 ghost use Rattle.sefunjaro.specs.{Changes.{next_after, saving_at}, Zones.{ever_in, last_year, spans_in}};
 
@@ -17,8 +17,7 @@ pub extern "C" fn sefunjaro_saving_at_by(
     nanosecond: u32,
     saving: &mut i64,
 ) -> u32
-    ensures same { zone.new.part.opened ≡ zone.old.part.opened }
-    ensures loan { IfSome zone.old.part.opened (λ _. zone.new.part.loan ≡ zone.old.part.loan) }
+    ensures lent { StaysLent zone.old zone.new }
     ensures answer { OnZone zone.old.part.opened result (saving.new ≡ saving.old)
         (λ held. OfKept held result (saving.new ≡ saving.old)
         (λ zone. Where (is_instant second nanosecond) result (saving.new ≡ saving.old) (saving.new ≡ saving_at (spans_in zone) second))) }
@@ -56,8 +55,7 @@ fn saving_at(opened: &Opened, second: i64, nanosecond: u32, saving: &mut i64) ->
 /// The first change after a second, if there is one.
 #[unsafe(no_mangle)]
 pub extern "C" fn sefunjaro_next_change_by(zone: &mut View, second: i64, change: &mut Change) -> u32
-    ensures same { zone.new.part.opened ≡ zone.old.part.opened }
-    ensures loan { IfSome zone.old.part.opened (λ _. zone.new.part.loan ≡ zone.old.part.loan) }
+    ensures lent { StaysLent zone.old zone.new }
     ensures answer { OnZone zone.old.part.opened result (change.new ≡ change.old)
         (λ held. OfKept held result (change.new ≡ change.old) (λ zone. IsFound (next_after (spans_in zone) second) result change.old change.new)) }
     ensures kept { IfRefused result (change.new ≡ change.old) }
@@ -99,8 +97,7 @@ pub extern "C" fn sefunjaro_changes_by(
     changes: &mut [Change],
     count: &mut usize,
 ) -> u32
-    ensures same { zone.new.part.opened ≡ zone.old.part.opened }
-    ensures loan { IfSome zone.old.part.opened (λ _. zone.new.part.loan ≡ zone.old.part.loan) }
+    ensures lent { StaysLent zone.old zone.new }
     ensures answer { OnZone zone.old.part.opened result (changes.new ≡ changes.old)
         (λ held. OfKept held result (changes.new ≡ changes.old) (λ zone. AreChanges zone from to result changes.old changes.new count.new)) }
     ensures kept { IfRefused result ((changes.new ≡ changes.old) × (count.new ≡ count.old)) }
@@ -138,8 +135,7 @@ fn all_changes(
 /// they do.
 #[unsafe(no_mangle)]
 pub extern "C" fn sefunjaro_ring_by(zone: &mut View, local: &Clock, ring: &mut Reading) -> u32
-    ensures same { zone.new.part.opened ≡ zone.old.part.opened }
-    ensures loan { IfSome zone.old.part.opened (λ _. zone.new.part.loan ≡ zone.old.part.loan) }
+    ensures lent { StaysLent zone.old zone.new }
     ensures answer { OnZone zone.old.part.opened result (ring.new ≡ ring.old)
         (λ held. IsRing held local.now result ring.old ring.new) }
     ensures kept { IfRefused result (ring.new ≡ ring.old) }
@@ -174,8 +170,7 @@ fn ring_of(opened: &Opened, clock: &Clock, ring: &mut Reading) -> u32
 /// The last year up to whose end a zone of a source says what is in force.
 #[unsafe(no_mangle)]
 pub extern "C" fn sefunjaro_years_by(zone: &mut View, year: &mut i32) -> u32
-    ensures same { zone.new.part.opened ≡ zone.old.part.opened }
-    ensures loan { IfSome zone.old.part.opened (λ _. zone.new.part.loan ≡ zone.old.part.loan) }
+    ensures lent { StaysLent zone.old zone.new }
     ensures answer { OnZone zone.old.part.opened result (year.new ≡ year.old)
         (λ held. OfKept held result (year.new ≡ year.old) (λ zone. (result ≡ 0) × (year.new ≡ last_year (ever_in zone)))) }
     ensures kept { IfRefused result (year.new ≡ year.old) }

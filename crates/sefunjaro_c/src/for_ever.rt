@@ -1,7 +1,7 @@
 //! A zone for ever as a whole: the string that carries it on, and its file.
-ghost use Rattle.std.specs.Prelude.{◌≡◌, IfSome, Some};
+ghost use Rattle.std.specs.Prelude.{◌≡◌, Some};
 ghost use Rattle.sefunjaro.specs.Zones.{ever_in};
-ghost use Rattle.sefunjaro_c.specs.{Faults.{plain}, ForEver.{ever_file_told, ever_tail_told, ever_told, IsEverFileTold, IsEverTailTold}};
+ghost use Rattle.sefunjaro_c.specs.{Faults.{plain}, ForEver.{ever_file_told, ever_tail_told, ever_told, IsEverFileTold, IsEverTailTold}, Opened.{StaysLent}};
 ghost use Rattle.sefunjaro_handles.specs.{Held.{OfKept, OfZone, OnZone}, Statuses.{not_kept, not_open, IfRefused}};
 
 use crate::fault::{DONE, Fault, NO_MEMORY, NOT_KEPT, NOT_OPEN, plain_fault};
@@ -25,8 +25,7 @@ pub extern "C" fn sefunjaro_tail_for_ever_by(
     is_posix: &mut bool,
     fault: &mut Fault,
 ) -> u32
-    ensures same { zone.new.part.opened ≡ zone.old.part.opened }
-    ensures loan { IfSome zone.old.part.opened (λ _. zone.new.part.loan ≡ zone.old.part.loan) }
+    ensures lent { StaysLent zone.old zone.new }
     ensures status { result ≡ fault.new.status }
     ensures answer { OnZone zone.old.part.opened result ((text.new ≡ text.old) × (fault.new ≡ plain not_open))
         (λ held. OfKept held result ((text.new ≡ text.old) × (fault.new ≡ plain not_kept)) (λ zone. IsEverTailTold (ever_in zone) text.old text.new whole.new is_posix.new fault.new)) }
@@ -120,8 +119,7 @@ pub extern "C" fn sefunjaro_tzif_for_ever_by(
     whole: &mut usize,
     fault: &mut Fault,
 ) -> u32
-    ensures same { zone.new.part.opened ≡ zone.old.part.opened }
-    ensures loan { IfSome zone.old.part.opened (λ _. zone.new.part.loan ≡ zone.old.part.loan) }
+    ensures lent { StaysLent zone.old zone.new }
     ensures status { result ≡ fault.new.status }
     ensures answer { OnZone zone.old.part.opened result ((file.new ≡ file.old) × (fault.new ≡ plain not_open))
         (λ held. OfKept held result ((file.new ≡ file.old) × (fault.new ≡ plain not_kept)) (λ zone. IsEverFileTold (ever_in zone) file.old file.new whole.new fault.new)) }

@@ -1,7 +1,7 @@
 //! What a zone is asked of many seconds at once.
-ghost use Rattle.std.specs.Prelude.{◌≡◌, ◌<◌, length, pos, slice_index_or, IfSome};
+ghost use Rattle.std.specs.Prelude.{◌≡◌, ◌<◌, length, pos, slice_index_or};
 ghost use Rattle.sefunjaro.specs.{Any.{Seen}, Offsets.{offsets_of}, Rooms.{filled}, Shown.{clocks_of, textless_place, texts_of, unshown_place}};
-ghost use Rattle.sefunjaro_c.specs.Lists.{far_place, OfPlace};
+ghost use Rattle.sefunjaro_c.specs.{Lists.{far_place, OfPlace}, Opened.{StaysLent}};
 ghost use Rattle.sefunjaro_handles.specs.{Held.{OfZone, OnZone}, Statuses.{IfRefused}};
 
 use crate::fault::{DONE, NOT_OPEN, OUT_OF_RANGE};
@@ -17,8 +17,7 @@ pub extern "C" fn sefunjaro_offsets_at_by(
     offsets: &mut [i32],
     place: &mut usize,
 ) -> u32
-    ensures same { zone.new.part.opened ≡ zone.old.part.opened }
-    ensures loan { IfSome zone.old.part.opened (λ _. zone.new.part.loan ≡ zone.old.part.loan) }
+    ensures lent { StaysLent zone.old zone.new }
     ensures answer { OnZone zone.old.part.opened result ((offsets.new ≡ offsets.old) × (place.new ≡ place.old))
         (λ held. OfPlace (far_place seconds.now) result place.old place.new (offsets.new ≡ offsets.old)
         (Seen held (λ total _. offsets.new ≡ filled (offsets_of total seconds.now) offsets.old))) }
@@ -62,8 +61,7 @@ pub extern "C" fn sefunjaro_clocks_at_by(
     clocks: &mut [Clock],
     place: &mut usize,
 ) -> u32
-    ensures same { zone.new.part.opened ≡ zone.old.part.opened }
-    ensures loan { IfSome zone.old.part.opened (λ _. zone.new.part.loan ≡ zone.old.part.loan) }
+    ensures lent { StaysLent zone.old zone.new }
     ensures answer { OnZone zone.old.part.opened result ((clocks.new ≡ clocks.old) × (place.new ≡ place.old))
         (λ held. Seen held (λ total _. OfPlace (unshown_place total seconds.now) result place.old place.new (clocks.new ≡ clocks.old)
         (clocks.new ≡ filled (clocks_of total seconds.now) clocks.old))) }
@@ -106,8 +104,7 @@ pub extern "C" fn sefunjaro_texts_at_by(
     whole: &mut usize,
     place: &mut usize,
 ) -> u32
-    ensures same { zone.new.part.opened ≡ zone.old.part.opened }
-    ensures loan { IfSome zone.old.part.opened (λ _. zone.new.part.loan ≡ zone.old.part.loan) }
+    ensures lent { StaysLent zone.old zone.new }
     ensures answer { OnZone zone.old.part.opened result ((text.new ≡ text.old) × (place.new ≡ place.old))
         (λ held. Seen held (λ total _. OfPlace (textless_place total seconds.now) result place.old place.new (text.new ≡ text.old)
         ((text.new ≡ filled (texts_of total seconds.now) text.old) × (whole.new ≡ length (texts_of total seconds.now))))) }

@@ -1,7 +1,7 @@
 //! What a zone is asked of many local times at once.
-ghost use Rattle.std.specs.Prelude.{◌≡◌, IfSome};
+ghost use Rattle.std.specs.Prelude.{◌≡◌};
 ghost use Rattle.sefunjaro.specs.Any.{Seen};
-ghost use Rattle.sefunjaro_c.specs.Found.{fold_of, gap_of, AreInstantsTold, OfRules};
+ghost use Rattle.sefunjaro_c.specs.{Found.{fold_of, gap_of, AreInstantsTold, OfRules}, Opened.{StaysLent}};
 ghost use Rattle.sefunjaro_handles.specs.{Held.{OfZone, OnZone}, Statuses.{IfRefused}};
 
 use crate::fault::{DONE, NOT_OPEN, OUT_OF_RANGE};
@@ -19,8 +19,7 @@ pub extern "C" fn sefunjaro_instants_of_by(
     found: &mut [Found],
     place: &mut usize,
 ) -> u32
-    ensures same { zone.new.part.opened ≡ zone.old.part.opened }
-    ensures loan { IfSome zone.old.part.opened (λ _. zone.new.part.loan ≡ zone.old.part.loan) }
+    ensures lent { StaysLent zone.old zone.new }
     ensures answer { OnZone zone.old.part.opened result ((found.new ≡ found.old) × (place.new ≡ place.old))
         (λ held. OfRules (fold_of fold) (gap_of gap) result ((found.new ≡ found.old) × (place.new ≡ place.old)) (λ fold gap. Seen held (λ total _.
         AreInstantsTold total fold gap clocks.now result found.old found.new place.old place.new))) }

@@ -1,6 +1,6 @@
 //! Sources, and the zones that are opened from them.
 ghost use Rattle.std.specs.{Prelude.{◌≡◌, ◌<◌, IfErr, IfOk, IfSome, MatchOption, None, is_some, length, nat_eq}, List.{slice_get}};
-ghost use Rattle.sefunjaro_c.specs.{Faults.{plain, source_due, zone_due, IsRefused}, Names.{IsNameAt}, Opened.{IsSourceOf, IsZoneOf}};
+ghost use Rattle.sefunjaro_c.specs.{Faults.{plain, source_due, zone_due, IsRefused}, Names.{IsNameAt}, Opened.{IsSourceOf, IsZoneOf, StaysLent}};
 ghost use Rattle.tz_lookup.specs.Databases.{names_of};
 ghost use Rattle.sefunjaro_handles.specs.{Held.{OfSource, OnSource, IsSource, IsZone}, Statuses.{done, not_open, IfRefused}};
 ghost use Rattle.sefunjaro.specs.{Any.{IsOfSource}, Sources.{release_in, table_in}};
@@ -71,8 +71,7 @@ pub extern "C" fn sefunjaro_zone_open_by(
     zone: &mut Handle,
     fault: &mut Fault,
 ) -> u32
-    ensures same { source.new.part.opened ≡ source.old.part.opened }
-    ensures loan { IfSome source.old.part.opened (λ _. source.new.part.loan ≡ source.old.part.loan) }
+    ensures lent { StaysLent source.old source.new }
     ensures status { result ≡ fault.new.status }
     ensures opened { is_some zone.new.held.opened ≡ nat_eq result 0 }
     ensures done { IfSome zone.new.held.opened (λ _. fault.new ≡ plain done) }
@@ -131,8 +130,7 @@ fn zone_of(alloc: Global, source: &OpenSource, name: &[u8]) -> Result<Box<Opened
 /// How many names of a source find a zone: those of its zones, and of the links to them.
 #[unsafe(no_mangle)]
 pub extern "C" fn sefunjaro_name_count_by(source: &mut View, count: &mut usize) -> u32
-    ensures same { source.new.part.opened ≡ source.old.part.opened }
-    ensures loan { IfSome source.old.part.opened (λ _. source.new.part.loan ≡ source.old.part.loan) }
+    ensures lent { StaysLent source.old source.new }
     ensures answer { OnSource source.old.part.opened result (count.new ≡ count.old)
         (λ from. (result ≡ 0) × (count.new ≡ length (names_of (table_in from)))) }
     ensures kept { IfRefused result (count.new ≡ count.old) }
@@ -165,8 +163,7 @@ pub extern "C" fn sefunjaro_name_by(
     name: &mut [u8],
     whole: &mut usize,
 ) -> u32
-    ensures same { source.new.part.opened ≡ source.old.part.opened }
-    ensures loan { IfSome source.old.part.opened (λ _. source.new.part.loan ≡ source.old.part.loan) }
+    ensures lent { StaysLent source.old source.new }
     ensures answer { OnSource source.old.part.opened result (name.new ≡ name.old)
         (λ from. IsNameAt (slice_get (names_of (table_in from)) place) result name.old name.new whole.new) }
     ensures kept { IfRefused result ((name.new ≡ name.old) × (whole.new ≡ whole.old)) }
@@ -204,8 +201,7 @@ pub extern "C" fn sefunjaro_source_version_by(
     version: &mut [u8],
     whole: &mut usize,
 ) -> u32
-    ensures same { source.new.part.opened ≡ source.old.part.opened }
-    ensures loan { IfSome source.old.part.opened (λ _. source.new.part.loan ≡ source.old.part.loan) }
+    ensures lent { StaysLent source.old source.new }
     ensures answer { OnSource source.old.part.opened result (version.new ≡ version.old)
         (λ from. IsNameAt (release_in from) result version.old version.new whole.new) }
     ensures kept { IfRefused result ((version.new ≡ version.old) × (whole.new ≡ whole.old)) }

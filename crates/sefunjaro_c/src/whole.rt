@@ -1,6 +1,6 @@
 //! A zone as a whole: the string that carries it on, and its file.
-ghost use Rattle.std.specs.Prelude.{◌≡◌, IfSome};
-ghost use Rattle.sefunjaro_c.specs.{Faults.{plain}, Whole.{tzif_told, none_for, tail_told, IsFileTold, IsTailTold}};
+ghost use Rattle.std.specs.Prelude.{◌≡◌};
+ghost use Rattle.sefunjaro_c.specs.{Faults.{plain}, Whole.{tzif_told, none_for, tail_told, IsFileTold, IsTailTold}, Opened.{StaysLent}};
 ghost use Rattle.sefunjaro_handles.specs.{Held.{OfKept, OfZone, OnZone}, Statuses.{not_kept, not_open, IfRefused}};
 
 use crate::fault::{DONE, Fault, NO_MEMORY, NONE_THERE, NOT_KEPT, NOT_OPEN, plain_fault};
@@ -21,8 +21,7 @@ pub extern "C" fn sefunjaro_tail_by(
     is_posix: &mut bool,
     fault: &mut Fault,
 ) -> u32
-    ensures same { zone.new.part.opened ≡ zone.old.part.opened }
-    ensures loan { IfSome zone.old.part.opened (λ _. zone.new.part.loan ≡ zone.old.part.loan) }
+    ensures lent { StaysLent zone.old zone.new }
     ensures status { result ≡ fault.new.status }
     ensures answer { OnZone zone.old.part.opened result ((text.new ≡ text.old) × (fault.new ≡ plain not_open))
         (λ held. OfKept held result ((text.new ≡ text.old) × (fault.new ≡ plain not_kept)) (λ zone. IsTailTold zone text.old text.new whole.new is_posix.new fault.new)) }
@@ -99,8 +98,7 @@ pub extern "C" fn sefunjaro_tzif_by(
     whole: &mut usize,
     fault: &mut Fault,
 ) -> u32
-    ensures same { zone.new.part.opened ≡ zone.old.part.opened }
-    ensures loan { IfSome zone.old.part.opened (λ _. zone.new.part.loan ≡ zone.old.part.loan) }
+    ensures lent { StaysLent zone.old zone.new }
     ensures status { result ≡ fault.new.status }
     ensures answer { OnZone zone.old.part.opened result ((file.new ≡ file.old) × (fault.new ≡ plain not_open))
         (λ held. OfKept held result ((file.new ≡ file.old) × (fault.new ≡ plain not_kept)) (λ zone. IsFileTold zone file.old file.new whole.new fault.new)) }

@@ -1,7 +1,7 @@
 //! What a zone is asked: instants, local times and readings.
 ghost use Rattle.std.specs.Prelude.{◌≡◌, ◌<◌, IfNone, IfSome, MatchOption, is_some, true, false, unsigned_abs, IfErr, IfOk, length, nat_eq};
 ghost use Rattle.civil_base.specs.{DateTimes.{instant, local_of, offset_of}, Instants.{instant_at, local_at}, Ranges.{is_in_years, IsOffset}, Layout.{day_part, time_part, zoned_text}};
-ghost use Rattle.sefunjaro_c.specs.{Read.{local_in, IsInstantOf, IsLocalRead, IsNoZonedText, IsZonedRead}, Times.{is_instant, is_near, nanos_at}, Answers.{is_shown, IsClockIn, IsTextIn, OfClock, Within, Where}};
+ghost use Rattle.sefunjaro_c.specs.{Read.{local_in, IsInstantOf, IsLocalRead, IsNoZonedText, IsZonedRead}, Times.{is_instant, is_near, nanos_at}, Answers.{is_shown, IsClockIn, IsTextIn, OfClock, Within, Where}, Opened.{StaysLent}};
 ghost use Rattle.sefunjaro_handles.specs.{Statuses.{IfRefused, out_of_memory}, Held.{OfZone, OnZone, IsZone}};
 ghost use Rattle.sefunjaro.specs.{Answered.{AreReadings, IsInForce}, Any.{Seen}, Clocks.{clock_at}, Rooms.{filled}};
 
@@ -164,8 +164,7 @@ fn parts_of(read: &OffsetDateTime) -> Instant
 /// Opens another handle on the same zone, as another thread may need it. What the other held before is closed.
 #[unsafe(no_mangle)]
 pub extern "C" fn sefunjaro_share_by(alloc: Global, zone: &mut View, other: &mut Handle) -> u32
-    ensures same { zone.new.part.opened ≡ zone.old.part.opened }
-    ensures loan { IfSome zone.old.part.opened (λ _. zone.new.part.loan ≡ zone.old.part.loan) }
+    ensures lent { StaysLent zone.old zone.new }
     ensures opened { is_some other.new.held.opened ≡ nat_eq result 0 }
     ensures answer { OnZone zone.old.part.opened result (Unit {0})
         (λ held. MatchOption other.new.held.opened (result ≡ out_of_memory) (IsZone (λ shared. shared ≡ held))) }
@@ -207,8 +206,7 @@ pub extern "C" fn sefunjaro_offset_at_by(
     nanosecond: u32,
     offset: &mut i32,
 ) -> u32
-    ensures same { zone.new.part.opened ≡ zone.old.part.opened }
-    ensures loan { IfSome zone.old.part.opened (λ _. zone.new.part.loan ≡ zone.old.part.loan) }
+    ensures lent { StaysLent zone.old zone.new }
     ensures answer { OnZone zone.old.part.opened result (offset.new ≡ offset.old)
         (λ held. Where (is_instant second nanosecond) result (offset.new ≡ offset.old) (Seen held (λ total _. offset.new ≡ total (nanos_at second nanosecond)))) }
     ensures kept { IfRefused result (offset.new ≡ offset.old) }
@@ -247,8 +245,7 @@ pub extern "C" fn sefunjaro_in_force_by(
     found: &mut InForce,
     name: &mut [u8],
 ) -> u32
-    ensures same { zone.new.part.opened ≡ zone.old.part.opened }
-    ensures loan { IfSome zone.old.part.opened (λ _. zone.new.part.loan ≡ zone.old.part.loan) }
+    ensures lent { StaysLent zone.old zone.new }
     ensures answer { OnZone zone.old.part.opened result (name.new ≡ name.old)
         (λ held. Where (is_instant second nanosecond) result (name.new ≡ name.old)
         (Seen held (λ total gives. IsInForce total gives (nanos_at second nanosecond) found.new name.old name.new))) }
@@ -295,8 +292,7 @@ pub extern "C" fn sefunjaro_clock_at_by(
     clock: &mut Clock,
     offset: &mut i32,
 ) -> u32
-    ensures same { zone.new.part.opened ≡ zone.old.part.opened }
-    ensures loan { IfSome zone.old.part.opened (λ _. zone.new.part.loan ≡ zone.old.part.loan) }
+    ensures lent { StaysLent zone.old zone.new }
     ensures answer { OnZone zone.old.part.opened result (clock.new ≡ clock.old)
         (λ held. Within (is_instant second nanosecond) result (clock.new ≡ clock.old) (Seen held (λ total _.
         Where (is_shown total (nanos_at second nanosecond)) result (clock.new ≡ clock.old) (IsClockIn total (nanos_at second nanosecond) clock.new offset.new)))) }
@@ -354,8 +350,7 @@ pub extern "C" fn sefunjaro_text_at_by(
     text: &mut [u8],
     whole: &mut usize,
 ) -> u32
-    ensures same { zone.new.part.opened ≡ zone.old.part.opened }
-    ensures loan { IfSome zone.old.part.opened (λ _. zone.new.part.loan ≡ zone.old.part.loan) }
+    ensures lent { StaysLent zone.old zone.new }
     ensures answer { OnZone zone.old.part.opened result (text.new ≡ text.old)
         (λ held. Within (is_instant second nanosecond) result (text.new ≡ text.old) (Seen held (λ total _.
         Where (is_shown total (nanos_at second nanosecond)) result (text.new ≡ text.old) (IsTextIn total (nanos_at second nanosecond) text.old text.new whole.new)))) }
@@ -430,8 +425,7 @@ pub extern "C" fn sefunjaro_readings_by(
     count: &mut usize,
     gap: &mut Gap,
 ) -> u32
-    ensures same { zone.new.part.opened ≡ zone.old.part.opened }
-    ensures loan { IfSome zone.old.part.opened (λ _. zone.new.part.loan ≡ zone.old.part.loan) }
+    ensures lent { StaysLent zone.old zone.new }
     ensures answer { OnZone zone.old.part.opened result (readings.new ≡ readings.old)
         (λ held. OfClock local.now result (readings.new ≡ readings.old) (λ x. Seen held (λ total _. AreReadings total x readings.old readings.new count.new gap.new))) }
     ensures kept { IfRefused result ((readings.new ≡ readings.old) × ((count.new ≡ count.old) × (gap.new ≡ gap.old))) }

@@ -130,24 +130,6 @@ fn answer<'r, Z: OpenedZone>(
     if zones.show_again(line, text)? {
         return Ok(());
     }
-    answer_anew(zones, number, line, text)
-}
-
-/// The same by itself.
-fn answer_anew<'r, Z: OpenedZone>(
-    zones: &mut Zones<'_, 'r, Z>,
-    number: usize,
-    line: &'r [u8],
-    text: &mut Vec<u8>,
-) -> Result<(), ReadingError>
-    requires { AreOpened Z.OpenedZone zones.old }
-    ensures accepted { OnOk result (request_refusal (found_in_table Z.read (table_of zones.old)) number line.now ≡ None) }
-    ensures text { OnOk result (text.new.items ≡ answer_line (found_in_table Z.read (table_of zones.old)) line.now) }
-    ensures read_back { OnOk result (All IsReadBack (shown_for (found_in_table Z.read (table_of zones.old)) line.now)) }
-    ensures same { table_of zones.new ≡ table_of zones.old }
-    ensures opened { AreOpened Z.OpenedZone zones.new }
-    ensures err { IfErr result (TellsReading (request_refusal (found_in_table Z.read (table_of zones.old)) number line.now)) }
-{
     let Some(asked) = text_of(line) else {
         return Err(ReadingError::Answer(AnswerError::NotText(Side::Requests, number)));
     };

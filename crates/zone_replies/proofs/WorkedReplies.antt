@@ -1,37 +1,12 @@
 -- Replies about Berlin in 2024, as Python's `zoneinfo` has its times.
-use Rattle.std.proofs.Common.{◌≡◌, refl, ap, ◌∙◌, arith, Bool, true, false, not, lit≤, ◌++◌, ◌∷◌, [], List, ℕ, ℤ, map, pos, filter, int_le, int_lt, ◌&&◌, ◌+ℤ◌, ◌-ℤ◌, ◌*ℤ◌, cond, Ok, Err, Some, None}
-use Rattle.std.specs.{Prelude.{codes}, Fmt.{digits}, Ordering.{int_eq}}
+use Rattle.std.proofs.Common.{◌≡◌, refl, ap, ◌∙◌, arith, Bool, true, false, not, lit≤, ◌++◌, ◌∷◌, [], List, ℕ, ℤ, map, pos, int_lt, cond, Ok, Err, Some, None}
+use Rattle.std.specs.{Prelude.{codes}, Fmt.{digits}}
 use Rattle.basics.specs.{DateLaws.{year_of-day}, Dates.{year_of}, Days.{is_leap, days_in_year, days_in_month, days_after_zero, days_before_zero, year_start, days_through, days_into_year, day, IsCountedYear}, SignedLaws.{signed}}
 use Rattle.civil_base.specs.{Instants.{local_at, seconds_of}, Layout.{day_part}, Ranges.{is_in_years}}
 use Rattle.zone_moments.specs.{Written.{epoch_text, seconds_text, fraction_text, moment_text, offset_shown, people_text}, declared.answer_form.AnswerForm.{AnswerForm}, declared.answer_form.AnswerForm.TheVariants.{People, Epoch, Json}}
-use Rattle.zone_replies.specs.{Faults.{Due, behind, each_due, followed}, Instants.{instant_text, is_untold, shown_due}, Kinds.{kind_of, kind_text}, Lists.{change_due, kind_between, second_from, sides_text}}
-use Rattle.zone_replies.specs.{Objects.{clock_members, force_members, front_members, kind_member, object_text, quoted}, Readings.{convert_due, local_due}, Skips.{from_to_text, gap_due, skipping}, Views.{InForce, ZoneView}}
+use Rattle.zone_replies.specs.{Berlin.{berlin_to as berlin, changes_in, in_force, instants_in, summer, total_in, winter}, Faults.{Due, behind, each_due, followed}, Instants.{instant_text, is_untold, shown_due}, Kinds.{kind_of, kind_text}, Lists.{change_due, kind_between, second_from, sides_text}}
+use Rattle.zone_replies.specs.{Objects.{clock_members, force_members, front_members, kind_member, object_text, quoted}, Readings.{convert_due, local_due}, Skips.{from_to_text, gap_due, skipping}}
 use Rattle.zone_replies.specs.declared.{fault.ReplyFault.TheVariants.{OutOfYears, Untold}, kind.Kind.{Kind}, kind.Kind.TheVariants.{One, Gap, Fold}}
-
-winter : InForce
-winter = record { offset = pos 3600; saving = pos 0; name = codes "CET" }
-
-summer : InForce
-summer = record { offset = pos 7200; saving = pos 3600; name = codes "CEST" }
-
--- 2024-03-31 01:00 UTC and 2024-10-27 01:00 UTC
-is_summer : ℤ → Bool
-is_summer s = int_le (pos 1711846800) s && int_lt s (pos 1729990800)
-
-in_force : ℤ → InForce
-in_force s = cond (is_summer s) summer winter
-
-total_in : ℤ → ℤ
-total_in t = (in_force (seconds_of t)).offset
-
-instants_in : ℤ → List ℤ
-instants_in x = filter (λ t. int_eq (t +ℤ pos 1000000000 *ℤ total_in t) x) ((x -ℤ pos 7200000000000) ∷ (x -ℤ pos 3600000000000) ∷ [])
-
-changes_in : ℤ → ℤ → List ℤ
-changes_in from to = filter (λ s. int_le from s && int_lt s to) (pos 1711846800 ∷ pos 1729990800 ∷ [])
-
-berlin : ℤ → ZoneView
-berlin last = record { total = total_in; readings = instants_in; force = in_force; changes = changes_in; last_year = last }
 
 counted : IsCountedYear (pos 2024)
 counted = record { first = omega (arith, signed); last = omega (arith, signed) }
@@ -63,18 +38,18 @@ told form kind t o is years year =
 -- 2024-10-27 02:30 comes twice: 00:30 UTC and 01:30 UTC
 first : (form : AnswerForm) → shown_due form (berlin (pos 2099)) (codes "Europe/Berlin") Fold (pos 1729989000000000000)
     ≡ Ok (instant_text form (berlin (pos 2099)) (codes "Europe/Berlin") Fold (pos 1729989000000000000) (pos 7200))
-unfolding winter summer is_summer in_force total_in seconds_of day_part
+unfolding winter summer in_force total_in seconds_of day_part
 first form = told form Fold (pos 1729989000000000000) (pos 7200) refl refl year
 
 second : (form : AnswerForm) → shown_due form (berlin (pos 2099)) (codes "Europe/Berlin") Fold (pos 1729992600000000000)
     ≡ Ok (instant_text form (berlin (pos 2099)) (codes "Europe/Berlin") Fold (pos 1729992600000000000) (pos 3600))
-unfolding winter summer is_summer in_force total_in seconds_of day_part
+unfolding winter summer in_force total_in seconds_of day_part
 second form = told form Fold (pos 1729992600000000000) (pos 3600) refl refl year
 
 both : (form : AnswerForm) → local_due form (berlin (pos 2099)) (codes "Europe/Berlin") (codes " | ") (pos 1729996200000000000)
     ≡ Ok (instant_text form (berlin (pos 2099)) (codes "Europe/Berlin") Fold (pos 1729989000000000000) (pos 7200)
     ++ ((codes " | " ++ instant_text form (berlin (pos 2099)) (codes "Europe/Berlin") Fold (pos 1729992600000000000) (pos 3600)) ++ []))
-unfolding winter summer is_summer in_force total_in instants_in berlin seconds_of day_part each_due convert_due
+unfolding winter summer in_force total_in instants_in berlin seconds_of day_part each_due convert_due
 both form =
     (λ i. cond (ap (int_lt (pos 2099)) year i) (Err Untold) (followed (first form i) (followed (behind (codes " | ") (second form i)) (Ok []))))
 
@@ -85,13 +60,13 @@ twice_as_seconds = both Epoch
 twice_for_people : local_due People (berlin (pos 2099)) (codes "Europe/Berlin") (codes " | ") (pos 1729996200000000000)
     ≡ Ok (people_text (pos 1729996200000000000) (pos 7200) (codes "CEST")
     ++ ((codes " | " ++ people_text (pos 1729996200000000000) (pos 3600) (codes "CET")) ++ []))
-unfolding berlin winter summer is_summer in_force seconds_of
+unfolding berlin winter summer in_force seconds_of
 twice_for_people = both People
 
 as_object : instant_text Json (berlin (pos 2099)) (codes "Europe/Berlin") Fold (pos 1729989000000000000) (pos 7200)
     ≡ codes "{\"zone\":\"Europe/Berlin\",\"instant\":1729989000," ++ (codes "\"local\":\"" ++ moment_text 32 (pos 1729996200000000000)
     ++ codes "\",\"offset\":\"" ++ codes "+02:00" ++ codes "\",") ++ codes "\"abbreviation\":\"CEST\",\"saving\":3600" ++ codes ",\"kind\":\"fold\"" ++ codes "}"
-unfolding berlin winter summer is_summer in_force seconds_of object_text front_members clock_members force_members kind_member quoted
+unfolding berlin winter summer in_force seconds_of object_text front_members clock_members force_members kind_member quoted
     seconds_text fraction_text offset_shown digits
 as_object = refl
 
@@ -106,14 +81,14 @@ untold = stop _ _ (ap (int_lt (pos 2023)) year)
 -- 2024-03-31 02:30 is skipped
 skipped : gap_due Epoch (berlin (pos 2099)) (codes "Europe/Berlin") (pos 1711852200000000000)
     ≡ Ok (codes "none: skipped at @1711846800, from +01:00 to +02:00")
-unfolding winter summer is_summer in_force changes_in berlin seconds_of skipping from_to_text epoch_text fraction_text offset_shown digits
+unfolding winter summer in_force changes_in berlin seconds_of skipping from_to_text epoch_text fraction_text offset_shown digits
 skipped = refl
 
 -- 02:00 is the first local time that is, and 03:00 the first that isn't
 edges : map (skipping (berlin (pos 2099)))
     (pos 1711850399999999999 ∷ pos 1711850400000000000 ∷ pos 1711853999999999999 ∷ pos 1711854000000000000 ∷ pos 1729996200000000000 ∷ [])
     ≡ None ∷ Some (pos 1711846800) ∷ Some (pos 1711846800) ∷ None ∷ None ∷ []
-unfolding winter summer is_summer in_force changes_in berlin seconds_of skipping
+unfolding winter summer in_force changes_in berlin seconds_of skipping
 edges = refl
 
 strings : map quoted (codes "a\"b" ∷ codes "\\" ∷ (9 ∷ 31 ∷ 32 ∷ 127 ∷ 195 ∷ 164 ∷ []) ∷ [])
@@ -128,7 +103,7 @@ kinds = refl
 listed : each_due (change_due Epoch (berlin (pos 2099)) (codes "Europe/Berlin")) (changes_in (pos 1704067200) (pos 1735689600))
     ≡ Ok ((codes "@1711846800: +01:00 CET to +02:00 CEST, saving 3600" ++ 10 ∷ [])
     ++ ((codes "@1729990800: +02:00 CEST to +01:00 CET, saving 0" ++ 10 ∷ []) ++ []))
-unfolding winter summer is_summer in_force changes_in berlin each_due change_due sides_text epoch_text fraction_text offset_shown digits
+unfolding winter summer in_force changes_in berlin each_due change_due sides_text epoch_text fraction_text offset_shown digits
 listed = refl
 
 -- the second of a change is within from its begin on

@@ -1,4 +1,5 @@
 -- Definitions: what public clauses say.
+pub mod Berlin
 pub mod Faults
 pub mod Fixed
 pub mod Forces

@@ -1,6 +1,6 @@
 -- Requests about Berlin in 2024, as Python's `zoneinfo` has its times, and requests that are faults.
-use Rattle.std.proofs.Common.{◌≡◌, Some, None, refl, ap, ◌∙◌, arith, Bool, true, false, not, lit≤, ◌++◌, ◌∷◌, [], List, ℕ, ℤ, map, pos, filter, int_le, int_lt, ◌&&◌, ◌+ℤ◌, ◌-ℤ◌, ◌*ℤ◌, cond, Ok, Err}
-use Rattle.std.specs.{Prelude.{bytes_eq, codes}, Fmt.{digits}, Ordering.{int_eq}, Str.{chars, is_utf8}}
+use Rattle.std.proofs.Common.{◌≡◌, Some, None, refl, ap, ◌∙◌, arith, Bool, true, false, not, lit≤, ◌++◌, ◌∷◌, [], List, ℕ, ℤ, map, pos, int_lt, cond, Ok, Err}
+use Rattle.std.specs.{Prelude.{bytes_eq, codes}, Fmt.{digits}, Str.{chars, is_utf8}}
 use lib.Utf8.{encode}
 use Rattle.basics.specs.{DateLaws.{year_of-day}, Dates.{year_of}, Days.{is_leap, days_in_year, days_in_month, days_after_zero, days_before_zero, year_start, days_through, days_into_year, day, IsCountedYear}, SignedLaws.{signed}, Numbers.{value_in}}
 use Rattle.civil_base.specs.{Clock.{time_at}, Instants.{local_at, seconds_of}, Layout.{day_part, time_part}, Ranges.{is_in_years}}
@@ -8,32 +8,13 @@ use Rattle.zone_command.specs.{Answers.{Answer, told}, Named.{Found}, Offsets.{o
 use Rattle.zone_moments.specs.{Numbers.{moment, seconds_east, counted}, Pieces.{digit_at, two_at, four_at, date_at, minute_at, second_at, offset_at}}
 use Rattle.zone_moments.specs.Readings.{digits_at, fraction_at, front_at, seconds_at, moment_in, local_in, in_years, zoned_at, zoned_in, size_at, count_at, count_in, counted_in, written_in, instant_in, asked_in}
 use Rattle.zone_moments.specs.{Written.{epoch_text, fraction_text, offset_shown, people_text, rfc3339_text}, declared.answer_form.AnswerForm.{AnswerForm}, declared.answer_form.AnswerForm.TheVariants.{People, Rfc3339, Epoch, Json}}
-use Rattle.zone_replies.specs.{Faults.{Due, behind, each_due, followed}, Instants.{instant_text, is_untold, shown_due}, Readings.{convert_due, local_due}, Skips.{from_to_text, skipping}, Views.{InForce, ZoneView}}
+use Rattle.zone_replies.specs.{Berlin.{berlin_to, changes_in, in_force, instants_in, summer, total_in, winter}, Faults.{Due, behind, each_due, followed}, Instants.{instant_text, is_untold, shown_due}, Readings.{convert_due, local_due}, Skips.{from_to_text, skipping}, Views.{ZoneView}}
 use Rattle.zone_replies.specs.declared.{fault.ReplyFault.TheVariants.{OutOfYears, Untold}, kind.Kind.{Kind}, kind.Kind.TheVariants.{Fold, One}}
 use Rattle.zone_serving.specs.{Requests.{request_in, request_of, words_of}, Streams.{answer_for, between, closing, is_fault, opening, response_of, stream_replies}, LogTexts.{log_text, text_of}}
 use Rattle.zone_words.specs.{Arguments.{task_in}, FaultLines.{fault_line}, Sorted.{put_any, put_option, put_word}, Words.{words_in}}
 
-winter : InForce
-winter = record { offset = pos 3600; saving = pos 0; name = codes "CET" }
-
-summer : InForce
-summer = record { offset = pos 7200; saving = pos 3600; name = codes "CEST" }
-
--- from 2024-03-31 01:00 UTC up to 2024-10-27 01:00 UTC
-in_force : ℤ → InForce
-in_force s = cond (int_le (pos 1711846800) s && int_lt s (pos 1729990800)) summer winter
-
-total_in : ℤ → ℤ
-total_in t = (in_force (seconds_of t)).offset
-
-instants_in : ℤ → List ℤ
-instants_in x = filter (λ t. int_eq (t +ℤ pos 1000000000 *ℤ total_in t) x) ((x -ℤ pos 7200000000000) ∷ (x -ℤ pos 3600000000000) ∷ [])
-
-changes_in : ℤ → ℤ → List ℤ
-changes_in from to = filter (λ s. int_le from s && int_lt s to) (pos 1711846800 ∷ pos 1729990800 ∷ [])
-
-berlin : ZoneView
-berlin = record { total = total_in; readings = instants_in; force = in_force; changes = changes_in; last_year = pos 2099 }
+abbrev berlin : ZoneView
+berlin = berlin_to (pos 2099)
 
 found : List ℕ → Found
 found name = cond (bytes_eq name (codes "Europe/Berlin")) (Ok berlin) (Err (codes "no zone has this name"))
@@ -100,7 +81,7 @@ if_told years untold text = cond (not years) (Err OutOfYears) (cond untold (Err 
 -- an instant that clocks show in that year
 shown : (who : List ℕ) (form : AnswerForm) (kind : Kind) (t o : ℤ) → total_in t ≡ o → is_in_years (local_at t o) ≡ true
     → year_of (day_part (local_at t o)) ≡ pos 2024 → shown_due form berlin who kind t ≡ Ok (instant_text form berlin who kind t o)
-unfolding shown_due berlin if_told
+unfolding shown_due berlin_to if_told
 shown who form kind t o is years year =
     (λ i. if_told (is_in_years (local_at t (is i))) (is_untold berlin (local_at t (is i))) (instant_text form berlin who kind t (is i)))
     ∙ (λ i. if_told (years i) (ap (int_lt (pos 2099)) year i) (instant_text form berlin who kind t o))
@@ -119,13 +100,13 @@ second who form kind = shown who form kind (pos 1729992600000000000) (pos 3600) 
 both : (form : AnswerForm) (separator : List ℕ) → local_due form berlin name separator (pos 1729996200000000000)
     ≡ Ok (instant_text form berlin name Fold (pos 1729989000000000000) (pos 7200)
     ++ ((separator ++ instant_text form berlin name Fold (pos 1729992600000000000) (pos 3600)) ++ []))
-unfolding winter summer in_force total_in instants_in berlin seconds_of day_part each_due convert_due
+unfolding winter summer in_force total_in instants_in berlin_to seconds_of day_part each_due convert_due
 both form separator =
     (λ i. cond (ap (int_lt (pos 2099)) in_2024.0 i) (Err Untold) (followed (first name form Fold i) (followed (behind separator (second name form Fold i)) (Ok []))))
 
 -- for people
 at_instant : answer People (codes " at Europe/Berlin   @1729989000 ") ≡ Ok (people_text (pos 1729996200000000000) (pos 7200) (codes "CEST"))
-unfolding found name winter summer in_force total_in instants_in berlin seconds_of is_leap days_in_year days_in_month days_after_zero days_before_zero year_start days_through days_into_year day time_at
+unfolding found name winter summer in_force total_in instants_in berlin_to seconds_of is_leap days_in_year days_in_month days_after_zero days_before_zero year_start days_through days_into_year day time_at
     moment seconds_east counted digit_at two_at four_at date_at minute_at second_at offset_at digits_at fraction_at front_at seconds_at
     moment_in local_in in_years zoned_at zoned_in size_at count_at count_in counted_in written_in instant_in asked_in
     day_part time_part value_in two_in size_in offset_in put_any put_option put_word task_in words_in fault_line
@@ -133,7 +114,7 @@ at_instant = ap (told name) (first name People Fold)
 
 -- all readings on one line
 twice : answer Epoch (codes "local Europe/Berlin 2024-10-27 02:30") ≡ Ok (codes "@1729989000 | @1729992600")
-unfolding found name berlin epoch_text fraction_text digits is_leap days_in_year days_in_month days_after_zero days_before_zero year_start days_through days_into_year day time_at
+unfolding found name berlin_to epoch_text fraction_text digits is_leap days_in_year days_in_month days_after_zero days_before_zero year_start days_through days_into_year day time_at
     moment seconds_east counted digit_at two_at four_at date_at minute_at second_at offset_at digits_at fraction_at front_at seconds_at
     moment_in local_in in_years zoned_at zoned_in size_at count_at count_in counted_in written_in instant_in asked_in
     day_part time_part value_in two_in size_in offset_in put_any put_option put_word task_in words_in fault_line
@@ -142,7 +123,7 @@ twice = ap (λ d. told name (followed (behind (opening Epoch) d) (Ok (closing Ep
 array : answer Json (codes "local Europe/Berlin 2024-10-27T02:30")
     ≡ Ok ((codes "[" ++ (instant_text Json berlin name Fold (pos 1729989000000000000) (pos 7200)
     ++ ((codes "," ++ instant_text Json berlin name Fold (pos 1729992600000000000) (pos 3600)) ++ []))) ++ codes "]")
-unfolding found name berlin is_leap days_in_year days_in_month days_after_zero days_before_zero year_start days_through days_into_year day time_at
+unfolding found name berlin_to is_leap days_in_year days_in_month days_after_zero days_before_zero year_start days_through days_into_year day time_at
     moment seconds_east counted digit_at two_at four_at date_at minute_at second_at offset_at digits_at fraction_at front_at seconds_at
     moment_in local_in in_years zoned_at zoned_in size_at count_at count_in counted_in written_in instant_in asked_in
     day_part time_part value_in two_in size_in offset_in put_any put_option put_word task_in words_in fault_line
@@ -150,7 +131,7 @@ array = ap (λ d. told name (followed (behind (opening Json) d) (Ok (closing Jso
 
 -- 00:30 by a clock one hour behind UTC is 01:30 UTC
 converted_once : answer Epoch (codes "convert -01:00 Europe/Berlin 2024-10-27T00:30") ≡ Ok (codes "@1729992600")
-unfolding found name winter summer in_force total_in instants_in berlin seconds_of each_due convert_due epoch_text fraction_text digits
+unfolding found name winter summer in_force total_in instants_in berlin_to seconds_of each_due convert_due epoch_text fraction_text digits
     is_leap days_in_year days_in_month days_after_zero days_before_zero year_start days_through days_into_year day time_at
     moment seconds_east counted digit_at two_at four_at date_at minute_at second_at offset_at digits_at fraction_at front_at seconds_at
     moment_in local_in in_years zoned_at zoned_in size_at count_at count_in counted_in written_in instant_in asked_in
@@ -160,7 +141,7 @@ converted_once =
 
 -- 2024-03-31 02:30 is skipped
 skipped : answer Epoch (codes "local Europe/Berlin 2024-03-31 02:30") ≡ Ok (codes "none: skipped at @1711846800, from +01:00 to +02:00")
-unfolding found name winter summer in_force total_in instants_in changes_in berlin seconds_of convert_due skipping from_to_text epoch_text
+unfolding found name winter summer in_force total_in instants_in changes_in berlin_to seconds_of convert_due skipping from_to_text epoch_text
     fraction_text offset_shown digits is_leap days_in_year days_in_month days_after_zero days_before_zero year_start days_through days_into_year day time_at
     moment seconds_east counted digit_at two_at four_at date_at minute_at second_at offset_at digits_at fraction_at front_at seconds_at
     moment_in local_in in_years zoned_at zoned_in size_at count_at count_in counted_in written_in instant_in asked_in
@@ -174,7 +155,7 @@ if_late false d e = cc
 
 -- a fault of a reply is told of the first zone
 too_late : answer Epoch (codes "convert Europe/Berlin UTC 2100-01-01 00:00") ≡ Err (codes "\"Europe/Berlin\": the zone's rules end before that year")
-unfolding found name berlin convert_due is_leap days_in_year days_in_month days_after_zero days_before_zero year_start days_through days_into_year day time_at
+unfolding found name berlin_to convert_due is_leap days_in_year days_in_month days_after_zero days_before_zero year_start days_through days_into_year day time_at
     moment seconds_east counted digit_at two_at four_at date_at minute_at second_at offset_at digits_at fraction_at front_at seconds_at
     moment_in local_in in_years zoned_at zoned_in size_at count_at count_in counted_in written_in instant_in asked_in
     day_part time_part value_in two_in size_in offset_in put_any put_option put_word task_in words_in fault_line
@@ -189,14 +170,14 @@ too_long = refl
 
 -- in a log
 logged : log_text People berlin (pos 1729989000000000000) ≡ Some (people_text (pos 1729996200000000000) (pos 7200) (codes "CEST"))
-unfolding winter summer in_force total_in instants_in berlin seconds_of
+unfolding winter summer in_force total_in instants_in berlin_to seconds_of
 logged = ap text_of (first [] People Fold)
 
 no_object : log_text Json berlin (pos 1729989000000000000) ≡ Some (rfc3339_text (pos 1729996200000000000) (pos 7200))
-unfolding winter summer in_force total_in instants_in berlin seconds_of
+unfolding winter summer in_force total_in instants_in berlin_to seconds_of
 no_object = ap text_of (first [] Rfc3339 Fold)
 
 -- 2100-01-01 00:00 UTC, which the zone doesn't tell
 unlogged : log_text Epoch berlin (pos 4102444800000000000) ≡ None
-unfolding winter summer in_force total_in instants_in berlin seconds_of day_part shown_due if_told
+unfolding winter summer in_force total_in instants_in berlin_to seconds_of day_part shown_due if_told
 unlogged = λ i. text_of (if_told true (ap (int_lt (pos 2099)) late i) (instant_text Epoch berlin [] One (pos 4102444800000000000) (pos 3600)))

@@ -1,6 +1,6 @@
 //! What no clause says: that calls succeed, printed texts, and values from outside, which are what Rust's own
 //! `format!` gives for the same options.
-use crate::checks::{hash_of, holds};
+use crate::tests::checks::{hash_of, holds};
 use pad_fmt::{
     Alignment, FormatterOptions, Full, Metadata, SmartDisplay, Text, TextSink, WriteBuffer,
     pad_with_width, padded_width_of, unpadded_width_of,

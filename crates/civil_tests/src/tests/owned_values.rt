@@ -2,7 +2,7 @@
 ghost use Rattle.std.specs.{Prelude.{◌≡◌, ◌==◌, not, length}, List.{list_all}};
 ghost use Rattle.std.specs.FinMap as map;
 
-use crate::checks::holds;
+use crate::tests::checks::holds;
 use basics::{Items, Text, TextMap};
 use std::alloc::Global;
 use std::process::Abort;

@@ -1,6 +1,6 @@
 //! Times that are read and written again, as people and logs write them, and what faults print.
 
-use crate::checks::{holds, prints};
+use crate::tests::checks::{holds, prints};
 use civil_base::UtcOffset;
 use std::process::Abort;
 use zone_moments::{

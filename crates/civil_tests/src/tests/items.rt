@@ -3,7 +3,7 @@
 ghost use Rattle.std.specs.Prelude.{◌≡◌, Some, IfSome, pos};
 ghost use Rattle.civil_items.specs.Defaults.{default_config};
 
-use crate::checks::{holds, prints};
+use crate::tests::checks::{holds, prints};
 use civil_base::{OffsetDateTime, SignedDuration, StdDuration, Timestamp, UtcDateTime};
 use civil_items::{
     BorrowedFormatItem, Component, ComponentRange, Config, ConversionRange, DateKind,
@@ -161,8 +161,7 @@ fn configurations() -> bool {
 
 #[test]
 fn values(rt: HostRuntime) {
-    holds(&rt, "lengths", lengths());
-    holds(&rt, "unsigned lengths", unsigned_lengths());
+    holds(&rt, "lengths", lengths() & unsigned_lengths());
     holds(&rt, "system times", system_times());
     holds(&rt, "configurations", configurations());
 }

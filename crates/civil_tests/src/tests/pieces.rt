@@ -2,7 +2,7 @@
 ghost use Rattle.std.specs.{Prelude.{◌≡◌, ◌≤◌, ◌==◌, ◌++◌, ◌∷◌, [], ℤ, List, ℕ, Option, Some, length, IfOk, OnOk, is_some}, Option.{unwrap_or}};
 ghost use Rattle.civil_base.specs.DateTimes.{instant};
 
-use crate::checks::holds;
+use crate::tests::checks::holds;
 use civil_base::OffsetDateTime;
 use std::alloc::{AllocError, Global};
 use std::process::Abort;

@@ -1,7 +1,7 @@
 use Rattle.std.proofs.{Common.{◌≡◌, cond, None, Ok, Some, subst, sym, ap, ◌∙◌}, lemmas.Option.{IfSome_then}, lemmas.Result.{err_from_is_err_and}}
 use Rattle.zone_answers.specs.{Asked.{asked}, AskedLaws.{Asks, asks}, Faults.{range}, Found.{found_in_table}, Opened.{table_of}, Requests.{name_of, request_of}}
 use Rattle.zone_answers.proofs.{ReadBackLemmas.{line_back}, RefusalLemmas.{not_text_refused, bad_request_refused, refusal_is, dates_are, line_is, zone_refused}, ZoneLemmas.{placed_there, placed_within}}
-use Rattle.zone_answers.proofs.answering.answer_anew.Goals as goal
+use Rattle.zone_answers.proofs.answering.answer.Goals as goal
 
 pub returns-in_default-clause-err : goal.returns-in_default-clause-err
 returns-in_default-clause-err g c = not_text_refused _ c.args.number c.args.line.now c.in_default.ensures.none
@@ -16,7 +16,7 @@ returns-in_err-place-clause-err g c =
     let text = c.in-Some.ensures.text in
     let request = c.in-Some-read.spelled.request in
     let reads = asks request_of c.args.line.now c.in-Some.asked.now (asked request) text.1 text.0 c.in-Some-read.ensures.read in
-    let error = err_from_is_err_and c.from_residual.result c.from_residual.ensures.1 in
+    let error = err_from_is_err_and c.from_residual-in_err-place.result c.from_residual-in_err-place.ensures.1 in
     rw (refusal_is (found_in_table g.Z.OpenedZone.read (table_of c.args.zones.now)) c.args.number c.args.line.now (asked request) reads, ← c.name.ensures, error.1, error.2)
     (zone_refused _ c.args.number (asked request) _ c.in_err-place.ensures.err)
 

@@ -1,5 +1,5 @@
 use Rattle.std.proofs.{Common.{rules, tests, ◌==◌, not, length, refl, ◌∙◌}, lemmas.Iterator.Consumers.{YieldsList-from_rest}, lemmas.Iterator.Search.{all_from_yields_List}}
-use Rattle.civil_tests.proofs.owned_values.has_no_empty_list.Goals as goal
+use Rattle.civil_tests.proofs.tests.owned_values.has_no_empty_list.Goals as goal
 
 pub returns : goal.returns
 returns c =

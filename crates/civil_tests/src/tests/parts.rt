@@ -2,7 +2,7 @@
 ghost use Rattle.std.specs.Prelude.{◌≡◌, IfSome, pos};
 ghost use Rattle.civil_parts.specs.{Durations.{longest, shortest}, declared.weekday.Weekday.TheVariants.{Monday}};
 
-use crate::checks::{hash_of, holds, prints};
+use crate::tests::checks::{hash_of, holds, prints};
 use civil_parts::{
     ComponentRange, ConversionRange, InvalidVariant, Month, SignedDuration, StdDuration, Weekday,
 };

@@ -3,7 +3,7 @@ ghost use Rattle.std.specs.Prelude.{◌≡◌, pos, neg_ℤ};
 ghost use Rattle.basics.specs.Days.{day as day_at};
 ghost use Rattle.civil_base.specs.{Clock.{time_at}, DateTimes.{instant, offset_of}};
 
-use crate::checks::{hash_of, holds};
+use crate::tests::checks::{hash_of, holds};
 use civil_base::Month::{December, February, January, March, October};
 use civil_base::Weekday::{Friday, Monday, Sunday, Thursday, Tuesday, Wednesday};
 use civil_base::{
