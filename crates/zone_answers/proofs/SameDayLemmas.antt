@@ -115,6 +115,6 @@ asked_is names total front end name text shown line n now is cut asks utf8 digit
 pub added : (names : List ℕ → Found) (latest : ℕ) (request line old new : List ℕ) → IsAnswered names latest request line → new ≡ old ++ line
     → IsAdded names latest request old new
 added names latest request line old new is grown = (
-      record { accepted = is.accepted; line = refl; back = is.back; early = is.early },
-      grown ∙ ap (λ t. old ++ t) (sym is.line),
-    )
+  record { accepted = is.accepted; line = refl; back = is.back; early = is.early },
+  grown ∙ ap (λ t. old ++ t) (sym is.line),
+)

@@ -32,5 +32,5 @@ answered_as table line answer is = by_request (request_of line) refl is.early
     by_request (Some (at name instant)) e early =
         subst (λ r. Matches r (answer_line (found_in_table to_2099 table) line) (plain_answer table line)) (is.accepted 1)
         (subst (λ b. let names = found_in_table (cond b to_2099 for_ever) table in
-            Matches (request_refusal names 1 line) (answer_line names line) (plain_answer table line))
+        Matches (request_refusal names 1 line) (answer_line names line) (plain_answer table line))
         (is_below instant year_2100 early) (as_zone_answers table line (at name instant) e)) ∙ ap Ok is.line
