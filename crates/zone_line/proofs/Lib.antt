@@ -1,3 +1,4 @@
+pub mod BlankLemmas
 pub mod BoundLemmas
 mod OrderLemmas
 pub mod PatternLemmas

@@ -1,5 +1,5 @@
 -- The kind of a line: the first of the patterns, in their order, that matches it.
-use Rattle.std.specs.Prelude.{ℕ, List, [], ◌∷◌, Bool, Option, Some, None, option_map, is_some, if◌then◌else◌}
+use Rattle.std.specs.{Prelude.{ℕ, List, [], ◌∷◌, Bool, not, ◌&&◌, ◌||◌, ◌==◌, length, slice_index, Option, Some, None, option_map, is_some, if◌then◌else◌}, List.{list_all}}
 use Rattle.zone_line.specs.{Options.{first_some}, Patterns.{match_in}, Texts.{empty_text}, Columns.{ZoneTexts, InfoTexts, RuleTexts, LinkTexts, zone_columns, continuation_columns, rule_columns, link_columns}}
 
 -- a kind of line, with what the groups of its pattern take
@@ -13,6 +13,14 @@ pub data LineKind : Type 0 where
 -- the line is blank or a comment
 unfoldable pub is_blank : List ℕ → Bool
 is_blank line = is_some (match_in empty_text line)
+
+-- the byte is no line feed
+abbrev pub is_no_feed : ℕ → Bool
+is_no_feed byte = not (byte == 10)
+
+-- the line is empty, or begins with `#` and has no line feed
+unfoldable pub is_plainly_blank : List ℕ → Bool
+is_plainly_blank line = length line == 0 || (slice_index line 0 == 35 && list_all is_no_feed line)
 
 unfoldable pub kind_of : List ℕ → Option LineKind
 kind_of line = first_some (

@@ -1,5 +1,6 @@
 //! The patterns' matchers, for many lines in turn, and the values of the lines and columns that they match.
-ghost use Rattle.std.specs.Prelude.{◌≡◌, ℕ, List, option_map, IfOk, IsTrue};
+ghost use Rattle.std.specs.{Prelude.{◌≡◌, ℕ, List, option_map, IfOk, IsTrue}, List.{list_all}};
+ghost use Rattle.zone_line.specs.Kinds.{is_plainly_blank, is_no_feed};
 ghost use Rattle.zone_line.specs.{Patterns.{Searches, found_in}, Texts.{empty_text, zone_text, continuation_text, rule_text, link_text, day_text, hm_text, hms_text}, Fields.{sided, sided_day, last_weekday}, LineValues.{one_off_of}};
 ghost use Rattle.zone_line.specs.Shown.{clock_shown, day_shown};
 ghost use Rattle.zone_values.specs.{Faults.{told}, Values.{saving_value}};
@@ -72,7 +73,8 @@ impl<'p> LineReader<'p> {
     pub(crate) fn is_blank(&mut self, line: &str) -> bool
         ensures { result ≡ is_blank line.now }
     {
-        self.empty.is_match(line)
+        // Most lines of a source are told by their bytes, with no search.
+        is_plainly_blank(line) || self.empty.is_match(line)
     }
 
     /// The columns of a Zone line.
@@ -404,6 +406,27 @@ impl LineReader<'_> {
             }),
         }
     }
+}
+
+/// Whether a line is empty, or a comment from its first byte on.
+#[tactic(auto, unfolding(crate::specs::Kinds::is_plainly_blank))]
+fn is_plainly_blank(line: &str) -> bool
+    ensures { result ≡ is_plainly_blank line.now }
+{
+    let bytes = line.as_bytes();
+    bytes.is_empty() || (bytes[0] == b'#' && is_one_line(bytes))
+}
+
+/// Whether no byte is a line feed.
+fn is_one_line(bytes: &[u8]) -> bool
+    ensures { result ≡ list_all is_no_feed bytes.now }
+{
+    // Each is looked at, whatever the others are, so that many are looked at at once.
+    let mut all = true;
+    for i in 0..bytes.len() {
+        all &= bytes[i] != b'\n';
+    }
+    all
 }
 
 /// What `found` gives of a matcher that lies on the heap.
