@@ -1,5 +1,5 @@
 -- The lines so far, and those that are left.
-use Rattle.std.proofs.Common.{◌≡◌, ℕ, suc, ◌+◌, Bool, true, false, cond, not, nat_lt, List, [], ◌∷◌, ◌++◌, length, map, inl, inr, Some, None, Ok, Err, get_or, drop, ◌<◌, ◌≤◌, subst, refl, sym, ap, ◌∙◌, append_assoc, append-nil, arith}
+use Rattle.std.proofs.Common.{◌≡◌, ℕ, suc, ◌+◌, Bool, true, false, cond, not, nat_lt, List, [], ◌∷◌, ◌++◌, length, map, inl, inr, Some, None, Err, get_or, drop, ◌<◌, ◌≤◌, subst, refl, sym, ap, ◌∙◌, append_assoc, append-nil, arith}
 use Rattle.std.proofs.lemmas.{Bool.{and_parts, le-ltb, lt-ltb, or_cases}, Grind.{flat_map-append}, List.{drop_all, drop_more}}
 use Rattle.std.specs.Prelude.{◌&&◌, ◌⊎◌, flat_map}
 use Rattle.zone_outside.specs.Limit.{text_limit}

@@ -2,15 +2,12 @@
 use Rattle.std.proofs.{Common.{◌≡◌, ◌<◌, ◌≤◌, ℕ, List, ◌++◌, length, Ok, Err, refl, sym}, lemmas.Bool.{le-ltb, lt-ltb}}
 use Rattle.zone_values.specs.Values.{LineValue}
 use Rattle.zone_plain_base.specs.LineFaults.{too_long}
-use Rattle.zone_plain.specs.{WrittenOut.{IsWrittenAs}, Heads.{head_of}, LineValues.{values_in}, Settled.{settled}, Plain.{if_short, plain_of}}
+use Rattle.zone_plain.specs.{WrittenOut.{IsWrittenAs}, Settled.{settled}, Plain.{if_short}, Told.{with_lines}}
 
--- what is written, before its length is told
-pub all_written : (source head : List ℕ) (values read given linked out : List LineValue) (body : List ℕ) → head_of source ≡ Ok head
-    → values_in source ≡ Ok values → read ≡ values → given ≡ read → settled given ≡ Ok linked → out ≡ linked → IsWrittenAs out body
-    → plain_of source ≡ if_short (head ++ body)
-unfolding plain_of
-all_written source head values read given linked out body heads means same also led spelled is =
-    rw (heads, means, sym same, sym also, led, sym spelled, is.spelled, is.wrote) refl
+-- what is written behind a head, before its length is told
+pub all_written : (head : List ℕ) (values linked out : List LineValue) (body : List ℕ) → settled values ≡ Ok linked → out ≡ linked → IsWrittenAs out body
+    → with_lines head values ≡ if_short (head ++ body)
+all_written head values linked out body led spelled is = rw (led, sym spelled, is.spelled, is.wrote) refl
 
 pub past_limit : (bytes : List ℕ) → 16777216 < length bytes → if_short bytes ≡ Err too_long
 past_limit bytes long = rw (lt-ltb 16777216 (length bytes) long) refl

@@ -1,6 +1,6 @@
 -- The lines that were settled, and those that are left.
 use Rattle.std.proofs.Common.{◌≡◌, ℕ, suc, ◌+◌, ◌-◌, ◌≤◌, ◌<◌, List, [], ◌∷◌, ◌++◌, map, length, take, drop, get_or, true, false, nat_lt, Result, Ok, Err, refl, sym, ap, ◌∙◌, subst, arith, append_assoc, append-nil}
-use Rattle.std.proofs.lemmas.{List.{drop_all, drop_more, get_or-map, length-map, map-append, take_more}, Bool.{ltb-false, le-ltb, lt-ltb}}
+use Rattle.std.proofs.lemmas.{List.{drop_all, drop_more, get_or-map, take_more}, Bool.{ltb-false, le-ltb, lt-ltb}}
 use Rattle.std.specs.{Prelude.{is_some}, FinMap.{get, empty, get-empty}}
 use Rattle.basics.specs.Keyed.{text_cmp}
 use Rattle.zone_outside.specs.Limit.{text_limit}

@@ -1,8 +1,8 @@
 -- Lines that were read as those of a source of a mark, which may be another's.
-use Rattle.std.{proofs.Common.{◌≡◌, ℕ, suc, ◌+◌, List, [], ◌∷◌, ◌++◌, map, length, Bool, false, Ok, refl, sym, ap, ◌∙◌, arith}, proofs.lemmas.Bool.{or_parts}, specs.Prelude.{◌||◌, codes}}
-use Rattle.zone_source.specs.{Lines.{lines_of}, Zones.{source_value}}
+use Rattle.std.{proofs.Common.{◌≡◌, ℕ, suc, ◌+◌, List, [], ◌∷◌, ◌++◌, length, Bool, false, refl, sym, ap, ◌∙◌, arith}, proofs.lemmas.Bool.{or_parts}, specs.Prelude.{◌||◌, codes}}
+use Rattle.zone_source.specs.{Lines.{lines_of}}
 use Rattle.zone_plain_base.specs.{Marks.{behind, ending_within}, Renamed.{ruleset_of}}
-use Rattle.zone_plain.{specs.LineValues.{mark_in, values_in}, specs.Told.{IsReadLine}, proofs.MetLemmas.{HasMet, nothing_met, one_met, all_met, mark_is}, proofs.ReadingLemmas.{HasRead, nothing_read, one_more}}
+use Rattle.zone_plain.{specs.LineValues.{mark_in}, specs.Told.{IsReadLine}, proofs.MetLemmas.{HasMet, nothing_met, one_met, all_met, mark_is}, proofs.ReadingLemmas.{HasRead, nothing_read, one_more}}
 
 -- the lines before the nth were read, where the mark is the source's, and whether the name of some ruleset of them begins with `_`
 pub record HasReadUnder (source : List ℕ) (lines : List (List ℕ)) (mark : List ℕ) (is_marked is_open : Bool) (n : ℕ) (left : List (List ℕ)) : Type 0 where

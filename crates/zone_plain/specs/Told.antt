@@ -1,10 +1,10 @@
 -- What the code's answers tell.
 use Rattle.std.specs.Prelude.{◌≡◌, ℕ, List, [], ◌∷◌, ◌++◌, Bool, true, false, Result, Ok, Err}
 use Rattle.zone_values.specs.{Values.{LineValue}, Results.{◌>>=◌}}
-use Rattle.zone_plain_base.specs.{PlainTexts.{plain_text}, LineFaults.{LineFault, at}, Said.{is_said}, declared.error.PlainFault.{PlainFault}, Marks.{behind}, Renamed.{renamed, ruleset_of}}
+use Rattle.zone_plain_base.specs.{PlainTexts.{plain_text}, LineFaults.{LineFault, Refusal, at}, Said.{is_said}, declared.error.PlainFault.{PlainFault}, Marks.{behind}, Renamed.{renamed, ruleset_of}}
 use Rattle.zone_plain_base.specs.declared.error.PlainFault.TheVariants as fault
 use Rattle.zone_plain_lines.specs.declared.cause.PlainCause.{PlainCause}
-use Rattle.zone_plain.specs.LineValues.{line_meaning, is_open_after, named}
+use Rattle.zone_plain.specs.{LineValues.{line_meaning, is_open_after, named}, Plain.{if_short}, Settled.{settled}, Written.{written}, WrittenOut.{written_out}}
 
 -- what is added of a line of a source of that mark, if it can be said
 abbrev pub added_line : List ℕ → Bool → List ℕ → Result LineValue PlainCause
@@ -31,3 +31,10 @@ abbrev pub IsLineFault : {A : Type 0} → Result A LineFault → PlainFault → 
 IsLineFault found (fault.Line n c) = found ≡ Err (at n c)
 IsLineFault found fault.TooLong = ⊥
 IsLineFault found fault.NoMemory = Unit {0}
+
+-- a head, and behind it what is written of a source of these values, or why nothing is
+abbrev pub with_lines : List ℕ → List LineValue → Result (List ℕ) Refusal
+with_lines head values = do
+  linked ← settled values
+  out ← written_out linked
+  if_short (head ++ written out)

@@ -66,8 +66,7 @@ fn add_zone<'t>(
 {
     let place = names.as_slice().len();
     names.push(name)?;
-    zones.insert(alloc, name, place)?;
-    Ok(())
+    zones.insert(alloc, name, place)
 }
 
 /// Adds a link's target, if the link is the first of its new name.
@@ -83,8 +82,7 @@ fn add_target(
         return Ok(());
     }
     let copy = Text::new(alloc, existing)?;
-    targets.insert(alloc, new, copy)?;
-    Ok(())
+    targets.insert(alloc, new, copy)
 }
 
 /// Adds what a line declares.
@@ -103,14 +101,8 @@ fn declare<'t>(
             add_zone(alloc, &mut declared.names, &mut declared.zones, zone.name)?;
             Ok(())
         }
-        Line::Rule(rule) => {
-            declared.rulesets.insert(alloc, rule.name, ())?;
-            Ok(())
-        }
-        Line::Link(link) => {
-            add_target(alloc, &mut declared.targets, link.existing, link.new)?;
-            Ok(())
-        }
+        Line::Rule(rule) => declared.rulesets.insert(alloc, rule.name, ()),
+        Line::Link(link) => add_target(alloc, &mut declared.targets, link.existing, link.new),
     }
 }
 
@@ -316,7 +308,10 @@ fn settle_link<'t>(
         Err(refused) => return Err(refused),
     };
     let led = line_of(declared.names.as_slice(), place, link.new);
-    if !write_said(alloc, reader, &led, text)? {
+    let Ok(is_said) = write_said(alloc, reader, &led, text) else {
+        return Err(Refused::NoMemory);
+    };
+    if !is_said {
         return Err(Refused::Cause(PlainCause::Unsayable));
     }
     Ok(led)
@@ -376,12 +371,7 @@ fn settle_line<'t>(
             Ok(()) => Ok(Line::Zone(*zone)),
             Err(refused) => Err(refused),
         },
-        Line::Link(link) => {
-            match settle_link(alloc, reader, declared, seen, limit, link, text) {
-                Ok(found) => Ok(found),
-                Err(refused) => Err(refused),
-            }
-        }
+        Line::Link(link) => settle_link(alloc, reader, declared, seen, limit, link, text),
     }
 }
 
@@ -396,12 +386,38 @@ fn nothing_seen(alloc: Global) -> Seen
     }
 }
 
-/// Adds a line.
-fn push<'t>(lines: &mut Vec<Line<'t>>, line: Line<'t>) -> Result<(), AllocError>
-    ensures { OnOk result (each line_value lines.new.items ≡ each line_value lines.old.items ++ line_value line.entry ∷ []) }
+/// What becomes of each of the lines, in order; before the first of them nothing is seen.
+fn settle_each<'t>(
+    alloc: Global,
+    reader: &mut LineReader<'_>,
+    declared: &Declared<'t>,
+    seen: &mut Seen,
+    lines: &[Line<'t>],
+) -> Result<Vec<Line<'t>>, PlainFault>
+    requires { IsAt declared.now seen.old (length lines.now) (each line_value lines.now) [] }
+    ensures ok { IfOk result (λ led. settled (each line_value lines.now) ≡ Ok (each line_value led.items)) }
+    ensures err { IfErr result (IsFaultOf (settled (each line_value lines.now))) }
 {
-    lines.push(line)?;
-    Ok(())
+    let mut text = Vec::new(alloc);
+    let mut led = Vec::new(alloc);
+    let mut size = 0;
+    let count = lines.len();
+    for place in 0..count {
+        let line = &lines[place];
+        let found = match settle_line(alloc, reader, declared, seen, count, line, &mut text) {
+            Ok(found) => found,
+            Err(refused) => return Err(fault_at(place + 1, refused)),
+        };
+        let added = link_size(&found, text.as_slice());
+        if added > LIMIT - size {
+            return Err(PlainFault::TooLong);
+        }
+        size += added;
+        let Ok(()) = led.push(found) else {
+            return Err(PlainFault::NoMemory);
+        };
+    }
+    Ok(led)
 }
 
 /// The lines of a source, each in its place: a link with the zone to which its target leads, over as many links as it takes;
@@ -421,23 +437,9 @@ pub(crate) fn settle<'t>(
     ensures ok { IfOk result (λ led. settled (each line_value lines.now) ≡ Ok (each line_value led.items)) }
     ensures err { IfErr result (IsFaultOf (settled (each line_value lines.now))) }
 {
-    let declared = declared_by(alloc, lines)?;
+    let Ok(declared) = declared_by(alloc, lines) else {
+        return Err(PlainFault::NoMemory);
+    };
     let mut seen = nothing_seen(alloc);
-    let mut text = Vec::new(alloc);
-    let mut led = Vec::new(alloc);
-    let mut size = 0;
-    let count = lines.len();
-    for (place, line) in lines.iter().enumerate() {
-        let found = match settle_line(alloc, reader, &declared, &mut seen, count, line, &mut text) {
-            Ok(found) => found,
-            Err(refused) => return Err(fault_at(place + 1, refused)),
-        };
-        let added = link_size(&found, text.as_slice());
-        if added > LIMIT - size {
-            return Err(PlainFault::TooLong);
-        }
-        size += added;
-        push(&mut led, found)?;
-    }
-    Ok(led)
+    settle_each(alloc, reader, &declared, &mut seen, lines)
 }

@@ -173,8 +173,7 @@ fn add_rule(
         None => return Ok(false),
     };
     let letters = offset_text(alloc, total)?;
-    let is_said = add_said(alloc, reader, &renamed(old, name, letters.as_str()), made)?;
-    Ok(is_said)
+    add_said(alloc, reader, &renamed(old, name, letters.as_str()), made)
 }
 
 /// Adds the rule that is made of a line, if it is a rule.

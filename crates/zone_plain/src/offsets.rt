@@ -113,8 +113,7 @@ fn add_with_total(
     let text = offset_text(alloc, total)?;
     let format = around_text(alloc, parts, text.as_str())?;
     let line = *line;
-    let is_said = add_with_format(alloc, reader, &line, format.as_str(), out)?;
-    Ok(is_said)
+    add_with_format(alloc, reader, &line, format.as_str(), out)
 }
 
 /// Adds a line with `%s` for `%z`, under the ruleset of that name. Answers whether the line can be said.
@@ -148,8 +147,7 @@ fn add_ruleset(
         (are_rules_said (map line_value lines.now) name.now (pair_shown pair.now))) }
 {
     let places = places_of(groups, pair.rules);
-    let is_said = add_rules(alloc, reader, lines, places, name, offset_of(pair), made)?;
-    Ok(is_said)
+    add_rules(alloc, reader, lines, places, name, offset_of(pair), made)
 }
 
 /// Names the ruleset that is made for a pair, and adds its rules to those that are made, if no line has asked for it yet. Answers its
@@ -203,8 +201,7 @@ fn write_line<'t>(
             Ok(true)
         }
         Asked::Total(parts, total) => {
-            let is_said = add_with_total(alloc, reader, &line, &parts, total, &mut out.zones)?;
-            Ok(is_said)
+            add_with_total(alloc, reader, &line, &parts, total, &mut out.zones)
         }
         Asked::Under(parts, pair) => {
             let (name, are_said) = name_pair(
@@ -213,46 +210,51 @@ fn write_line<'t>(
             if !are_said {
                 return Ok(false);
             }
-            let name = name.as_str();
-            let is_said = add_under(alloc, reader, &line, &parts, name, &mut out.zones)?;
-            Ok(is_said)
+            add_under(alloc, reader, &line, &parts, name.as_str(), &mut out.zones)
         }
     }
 }
 
 /// What is written of the lines with `%z` written out, and of the rules that are made; or why they are refused. The rules that a line
 /// asks for are counted as soon as they are made, since a few lines can ask for many times their own size.
-fn write_lines(
+fn write_lines<'t>(
     alloc: Global,
     reader: &mut LineReader<'_>,
-    lines: &[Line<'_>],
+    lines: &[Line<'t>],
     groups: &TextMap<Items<usize>>,
     mark: &str,
+    pairs: &mut Pairs<'t>,
+    made: &mut Vec<u8>,
 ) -> Result<Vec<u8>, PlainFault>
     requires grouped { IsGrouped (map line_value lines.now) groups.now }
     requires mark { mark.now ≡ mark_of (map line_value lines.now) }
+    requires pairs { pairs.old ≡ [] }
+    requires made { made.old.items ≡ [] }
     ensures ok { IfOk result (λ bytes. IsWrittenAs (map line_value lines.now) bytes.items) }
     ensures err { IfErr result (IsFaultOf (written_out (map line_value lines.now))) }
 {
-    let mut pairs = Pairs::new(alloc);
-    let mut made = Vec::new(alloc);
     let mut out = Parts {
         rules: Vec::new(alloc),
         zones: Vec::new(alloc),
         links: Vec::new(alloc),
     };
     for place in 0..lines.len() {
-        if !write_line(
-            alloc, reader, lines, groups, mark, place, &mut pairs, &mut made, &mut out,
-        )? {
+        let Ok(is_said) = write_line(
+            alloc, reader, lines, groups, mark, place, pairs, made, &mut out,
+        ) else {
+            return Err(PlainFault::NoMemory);
+        };
+        if !is_said {
             return Err(PlainFault::Line(place + 1, PlainCause::Unsayable));
         }
         if made.as_slice().len() > LIMIT {
             return Err(PlainFault::TooLong);
         }
     }
-    let bytes = joined(out, made.as_slice())?;
-    Ok(bytes)
+    match joined(out, made.as_slice()) {
+        Ok(bytes) => Ok(bytes),
+        Err(_) => Err(PlainFault::NoMemory),
+    }
 }
 
 /// What is written of a source's lines with `%z` written out: the rules, behind them those that are made, then the zones, then the links.
@@ -270,7 +272,14 @@ pub fn write_out(
     ensures ok { IfOk result (λ bytes. IsWrittenAs (map line_value lines.now) bytes.items) }
     ensures err { IfErr result (IsFaultOf (written_out (map line_value lines.now))) }
 {
-    let groups = places_by_name(alloc, lines)?;
-    let mark = mark_of(alloc, lines)?;
-    write_lines(alloc, reader, lines, &groups, mark.as_str())
+    let Ok(groups) = places_by_name(alloc, lines) else {
+        return Err(PlainFault::NoMemory);
+    };
+    let Ok(mark) = mark_of(alloc, lines) else {
+        return Err(PlainFault::NoMemory);
+    };
+    let mut pairs = Pairs::new(alloc);
+    let mut made = Vec::new(alloc);
+    let mark = mark.as_str();
+    write_lines(alloc, reader, lines, &groups, mark, &mut pairs, &mut made)
 }

@@ -1,7 +1,7 @@
 //! The plain form of a source: the line of its release; its mark; its lines, read, led through the stages and written out.
 ghost use Rattle.std.specs.Prelude.{◌≡◌, IfOk, IfErr, ◌≤◌, Ok, map, length, Some, ◌++◌, codes, false, string_bytes, OnOk};
 ghost use Rattle.zone_values.specs.Values.{line_value, space};
-ghost use Rattle.zone_plain.specs.{LineValues.{is_open_after, mark_in, values_in, known, meant_in}, Told.{IsAddedLine, IsReadLine, added_line, IsLineFault}, Plain.{plain_of}, Rebuilt.{IsRebuilt}, Heads.{is_silent, head_with, head_of}};
+ghost use Rattle.zone_plain.specs.{LineValues.{is_open_after, mark_in, values_in, known, meant_in}, Told.{IsAddedLine, IsReadLine, added_line, IsLineFault, with_lines}, Plain.{plain_of}, Rebuilt.{IsRebuilt}, Heads.{is_silent, head_with, head_of}};
 ghost use Rattle.zone_plain_base.specs.{Told.{IsRefused}, LineFaults.{IsFaultOf}, Marks.{behind, tails}, Renamed.{renamed, ruleset_of}, Said.{is_said}};
 ghost use Rattle.zone_source.specs.Zones.{source_value};
 
@@ -18,24 +18,27 @@ use zone_source::{LIMIT, LineList, Lines, put_release_line, release_of, text_of}
 
 /// Whether the line is read as one that says nothing.
 #[tactic(auto, unfolding(crate::specs::Heads::is_silent))]
-fn is_silent(alloc: Global, parser: &LineParser, line: &[u8]) -> Result<bool, AllocError>
+fn is_silent(alloc: Global, reader: &mut LineReader<'_>, line: &[u8]) -> Result<bool, AllocError>
     ensures { IfOk result (λ silent. silent ≡ is_silent line.now) }
 {
     let Some(text) = text_of(line) else {
         return Ok(false);
     };
-    let mut reader = parser.reader(alloc)?;
-    is_read(alloc, &mut reader, &Line::Space, text)
+    is_read(alloc, reader, &Line::Space, text)
 }
 
 /// The line that names a release, with its line feed.
-fn head_naming(alloc: Global, parser: &LineParser, release: &str) -> Result<Vec<u8>, PlainFault>
+fn head_naming(
+    alloc: Global,
+    reader: &mut LineReader<'_>,
+    release: &str,
+) -> Result<Vec<u8>, PlainFault>
     ensures ok { IfOk result (λ head. head_with (Some release.now) ≡ Ok head.items) }
     ensures err { IfErr result (IsLineFault (head_with (Some release.now))) }
 {
     let mut head = Vec::new(alloc);
     put_release_line(&mut head, release)?;
-    if !is_silent(alloc, parser, head.as_slice())? {
+    if !is_silent(alloc, reader, head.as_slice())? {
         return Err(PlainFault::Line(1, PlainCause::Unsayable));
     }
     head.extend_from_slice(b"\n")?;
@@ -44,12 +47,12 @@ fn head_naming(alloc: Global, parser: &LineParser, release: &str) -> Result<Vec<
 
 /// The line that names the source's release, with its line feed; nothing where it names none.
 #[tactic(auto, unfolding(crate::specs::Heads::head_of))]
-fn head_of(alloc: Global, parser: &LineParser, source: &[u8]) -> Result<Vec<u8>, PlainFault>
+fn head_of(alloc: Global, reader: &mut LineReader<'_>, source: &[u8]) -> Result<Vec<u8>, PlainFault>
     ensures ok { IfOk result (λ head. head_of source.now ≡ Ok head.items) }
     ensures err { IfErr result (IsLineFault (head_of source.now)) }
 {
     match release_of(source) {
-        Some(release) => head_naming(alloc, parser, release),
+        Some(release) => head_naming(alloc, reader, release),
         None => Ok(Vec::new(alloc)),
     }
 }
@@ -106,8 +109,7 @@ fn mark_in(alloc: Global, source: &[u8]) -> Result<String, AllocError>
 {
     let names = names_of(alloc, source)?;
     let slices = slices(alloc, &names)?;
-    let mark = mark_behind(alloc, slices)?;
-    Ok(mark)
+    mark_behind(alloc, slices)
 }
 
 /// Whether a line of the zone has to follow, where one had to before.
@@ -209,12 +211,16 @@ fn read_line(
 
 /// The plain texts of a source's lines, each as it stands, or the first line that is refused. They are read as those of a source that has
 /// no name of a ruleset with a `_` in front, as most have none, and again where it has one or a line is refused.
-fn read_lines(alloc: Global, parser: &LineParser, source: &[u8]) -> Result<LineList, PlainFault>
+fn read_lines(
+    alloc: Global,
+    reader: &mut LineReader<'_>,
+    source: &[u8],
+) -> Result<LineList, PlainFault>
     requires { length source.now ≤ LIMIT }
     ensures ok { IfOk result (λ lines. values_in source.now ≡ Ok (map source_value lines)) }
     ensures err { IfErr result (IsLineFault (values_in source.now)) }
 {
-    match read_under(alloc, parser, source, "_") {
+    match read_under(alloc, reader, source, "_") {
         Ok(read) => {
             if !read.is_marked {
                 return Ok(read.lines);
@@ -222,17 +228,21 @@ fn read_lines(alloc: Global, parser: &LineParser, source: &[u8]) -> Result<LineL
         }
         Err(_) => (),
     }
-    read_marked(alloc, parser, source)
+    read_marked(alloc, reader, source)
 }
 
 /// The same of any source, by its own mark.
-fn read_marked(alloc: Global, parser: &LineParser, source: &[u8]) -> Result<LineList, PlainFault>
+fn read_marked(
+    alloc: Global,
+    reader: &mut LineReader<'_>,
+    source: &[u8],
+) -> Result<LineList, PlainFault>
     requires { length source.now ≤ LIMIT }
     ensures ok { IfOk result (λ lines. values_in source.now ≡ Ok (map source_value lines)) }
     ensures err { IfErr result (IsLineFault (values_in source.now)) }
 {
     let mark = mark_in(alloc, source)?;
-    match read_under(alloc, parser, source, mark.as_str()) {
+    match read_under(alloc, reader, source, mark.as_str()) {
         Ok(read) => Ok(read.lines),
         Err(fault) => Err(fault),
     }
@@ -250,7 +260,7 @@ struct LinesRead {
 /// The same as of a source of that mark.
 fn read_under(
     alloc: Global,
-    parser: &LineParser,
+    reader: &mut LineReader<'_>,
     source: &[u8],
     mark: &str,
 ) -> Result<LinesRead, PlainFault>
@@ -259,10 +269,11 @@ fn read_under(
     ensures mark { IfOk result (λ read. read.is_marked ≡ false → codes "_" ≡ mark_in source.now) }
     ensures err { IfErr result (λ fault. mark.now ≡ mark_in source.now → IsLineFault (values_in source.now) fault) }
 {
-    let mut reader = parser.reader(alloc)?;
     let mut laid = Vec::new(alloc);
     let mut plain = Vec::new(alloc);
-    let is_blank_said = write_said(alloc, &mut reader, &Line::Space, &mut plain)?;
+    let Ok(is_blank_said) = write_said(alloc, reader, &Line::Space, &mut plain) else {
+        return Err(PlainFault::NoMemory);
+    };
     let mut lines = LineList::new(alloc);
     let mut is_open = false;
     let mut is_marked = false;
@@ -270,7 +281,7 @@ fn read_under(
     for line in Lines::new(source) {
         match read_line(
             alloc,
-            &mut reader,
+            reader,
             mark,
             is_blank_said,
             is_open,
@@ -309,28 +320,61 @@ pub fn plain(alloc: Global, parser: &LineParser, source: &[u8]) -> Result<Vec<u8
     ensures read { IfOk result (λ bytes. IsRebuilt source.now bytes.items) }
     ensures err { IfErr result (IsFaultOf (plain_of source.now)) }
 {
-    match plain_of(alloc, parser, source) {
-        Ok(bytes) => Ok(bytes),
-        Err(fault) => Err(fault),
-    }
+    let Ok(mut reader) = parser.reader(alloc) else {
+        return Err(PlainFault::NoMemory);
+    };
+    plain_of(alloc, &mut reader, source)
 }
 
-/// What is written of a source, or why nothing is.
-#[tactic(auto, unfolding(crate::specs::Plain::plain_of))]
-fn plain_of(alloc: Global, parser: &LineParser, source: &[u8]) -> Result<Vec<u8>, PlainFault>
-    requires { length source.now ≤ LIMIT }
-    ensures ok { IfOk result (λ bytes. plain_of source.now ≡ Ok bytes.items) }
-    ensures err { IfErr result (IsFaultOf (plain_of source.now)) }
+/// The line of a source's release, and behind it what is written of its lines, if that is short enough.
+fn with_lines(
+    alloc: Global,
+    reader: &mut LineReader<'_>,
+    head: Vec<u8>,
+    lines: &[Line<'_>],
+) -> Result<Vec<u8>, PlainFault>
+    ensures ok { IfOk result (λ bytes. with_lines head.items (map line_value lines.now) ≡ Ok bytes.items) }
+    ensures err { IfErr result (IsFaultOf (with_lines head.items (map line_value lines.now))) }
 {
-    let mut bytes = head_of(alloc, parser, source)?;
-    let lines = read_lines(alloc, parser, source)?;
-    let mut reader = parser.reader(alloc)?;
-    let read = lines_read(alloc, &mut reader, &lines)?;
-    let led = settle(alloc, &mut reader, read.as_slice())?;
-    let body = write_out(alloc, &mut reader, led.as_slice())?;
-    bytes.extend_from_slice(body.as_slice())?;
+    let led = match settle(alloc, reader, lines) {
+        Ok(led) => led,
+        Err(fault) => return Err(fault),
+    };
+    let body = match write_out(alloc, reader, led.as_slice()) {
+        Ok(body) => body,
+        Err(fault) => return Err(fault),
+    };
+    let mut bytes = head;
+    let Ok(()) = bytes.extend_from_slice(body.as_slice()) else {
+        return Err(PlainFault::NoMemory);
+    };
     if bytes.as_slice().len() > LIMIT {
         return Err(PlainFault::TooLong);
     }
     Ok(bytes)
+}
+
+/// What is written of a source, or why nothing is.
+#[tactic(auto, unfolding(crate::specs::Plain::plain_of))]
+fn plain_of(
+    alloc: Global,
+    reader: &mut LineReader<'_>,
+    source: &[u8],
+) -> Result<Vec<u8>, PlainFault>
+    requires { length source.now ≤ LIMIT }
+    ensures ok { IfOk result (λ bytes. plain_of source.now ≡ Ok bytes.items) }
+    ensures err { IfErr result (IsFaultOf (plain_of source.now)) }
+{
+    let head = match head_of(alloc, reader, source) {
+        Ok(head) => head,
+        Err(fault) => return Err(fault),
+    };
+    let lines = match read_lines(alloc, reader, source) {
+        Ok(lines) => lines,
+        Err(fault) => return Err(fault),
+    };
+    let Ok(read) = lines_read(alloc, reader, &lines) else {
+        return Err(PlainFault::NoMemory);
+    };
+    with_lines(alloc, reader, head, read.as_slice())
 }

@@ -1,4 +1,4 @@
-use Rattle.std.{proofs.Common.{sym, ap, ◌∙◌}, specs.FinMap.{insert}}
+use Rattle.std.{proofs.Common.{sym, ap, ◌∙◌}, proofs.lemmas.Result.{IfOk-weaker}, specs.FinMap.{insert}}
 use Rattle.zone_plain.proofs.NameLemmas.{link_known, link_added}
 use Rattle.zone_plain.proofs.links.add_target.Goals as goal
 
@@ -7,5 +7,5 @@ returns-then-contains_key c = link_known _ _ _ (sym c.contains_key.ensures ∙ c
 
 pub returns : goal.returns
 returns c =
-    link_added _ _ _ _ (sym c.contains_key.ensures ∙ c.if-contains_key.false)
-    (c.in_ok-insert.ensures.ok ∙ ap (insert c.args.targets.now c.args.new.now) c.in_ok-copy.ensures)
+    IfOk-weaker c.insert.result _ _ (λ _ added. link_added _ _ _ _ (sym c.contains_key.ensures ∙ c.if-contains_key.false)
+    (added ∙ ap (insert c.args.targets.now c.args.new.now) c.in_ok-copy.ensures)) c.insert.ensures.ok

@@ -1,4 +1,4 @@
-use Rattle.std.proofs.Common.{refl}
+use Rattle.std.proofs.{Common.{refl}, lemmas.Result.{IfOk-weaker}}
 use Rattle.zone_values.specs.Values.{rule_value}
 use Rattle.zone_plain.proofs.NameLemmas.{nothing_more, zone_more, rule_more, link_more}
 use Rattle.zone_plain.proofs.links.declare.Goals as goal
@@ -13,10 +13,10 @@ pub returns-in_ok-add_zone-in-Zone : goal.returns-in_ok-add_zone-in-Zone
 returns-in_ok-add_zone-in-Zone c values h =
     rw c.in-Zone.is (zone_more _ _ values _ _ c.in_ok-add_zone-in-Zone.ensures.names c.in_ok-add_zone-in-Zone.ensures.zones refl refl h)
 
-pub returns-in_ok-insert-in-Rule : goal.returns-in_ok-insert-in-Rule
-returns-in_ok-insert-in-Rule c values h =
-    rw c.in-Rule.is (rule_more _ _ values (rule_value c.in-Rule.rule) refl refl refl c.in_ok-insert-in-Rule.ensures.ok h)
+pub returns-in-Rule : goal.returns-in-Rule
+returns-in-Rule c =
+    IfOk-weaker c.insert.result _ _ (λ _ added values h.
+    rw c.in-Rule.is (rule_more _ _ values (rule_value c.in-Rule.rule) refl refl refl added h)) c.insert.ensures.ok
 
-pub returns-in_ok-add_target-in-Link : goal.returns-in_ok-add_target-in-Link
-returns-in_ok-add_target-in-Link c values h =
-    rw c.in-Link.is (link_more _ _ values _ _ refl refl c.in_ok-add_target-in-Link.ensures refl h)
+pub returns-in-Link : goal.returns-in-Link
+returns-in-Link c = IfOk-weaker c.add_target.result _ _ (λ _ added values h. rw c.in-Link.is (link_more _ _ values _ _ refl refl added refl h)) c.add_target.ensures

@@ -1,6 +1,7 @@
-use Rattle.std.proofs.Common.{sym, ◌∙◌, refl, subst}
+use Rattle.std.proofs.{Common.{List, sym, ◌∙◌, refl, subst}, lemmas.Result.{IfOk-weaker, IfErr-weaker}}
 use Rattle.zone_plain_base.specs.Told.{IsRefused}
-use Rattle.zone_plain.proofs.LinkLemmas.{space_stays, rule_stays, continuation_lacks, continuation_stays, plain_more, link_is}
+use Rattle.zone_values.specs.Values.{LineValue}
+use Rattle.zone_plain.{specs.Settled.{settled_link}, specs.Stands.{IsAt}, proofs.LinkLemmas.{space_stays, rule_stays, continuation_lacks, continuation_stays, plain_more, link_is}}
 use Rattle.zone_plain.proofs.links.settle_line.Goals as goal
 
 pub returns-in-Space-clause-ok : goal.returns-in-Space-clause-ok
@@ -30,16 +31,19 @@ returns-in-Ok-clause-ok c values before here =
 pub returns-in-Err-clause-err : goal.returns-in-Err-clause-err
 returns-in-Err-clause-err c values before here = rw c.in-Zone.is (c.in-Err.ensures.err c.args.limit values before here)
 
-pub returns-in-Ok-settle_link-clause-ok : goal.returns-in-Ok-settle_link-clause-ok
-returns-in-Ok-settle_link-clause-ok c values before here =
+pub returns-in-Link-clause-ok : goal.returns-in-Link-clause-ok
+returns-in-Link-clause-ok c =
     let existing = c.in-Link.link.existing.now in
     let new = c.in-Link.link.new.now in
-    let found = c.in-Ok-settle_link.ensures.ok values before here in
-    rw c.in-Link.is (link_is values before existing new ∙ found.0, found.1)
+    IfOk-weaker c.settle_link.result _ _ (λ _ is values before here.
+    let found = is values before here in
+    rw c.in-Link.is (link_is values before existing new ∙ found.0, found.1)) c.settle_link.ensures.ok
 
-pub returns-in-Err-settle_link-clause-err : goal.returns-in-Err-settle_link-clause-err
-returns-in-Err-settle_link-clause-err c values before here =
+pub returns-in-Link-clause-err : goal.returns-in-Link-clause-err
+returns-in-Link-clause-err c =
     let existing = c.in-Link.link.existing.now in
     let new = c.in-Link.link.new.now in
-    rw c.in-Link.is (subst (λ f. IsRefused f c.in-Err-settle_link.refused) (sym (link_is values before existing new))
-    (c.in-Err-settle_link.ensures.err values before here))
+    IfErr-weaker c.settle_link.result
+    (λ refused. (values before : List LineValue) → IsAt c.args.declared.now c.args.seen.now c.args.limit values before → IsRefused (settled_link values before existing new) refused)
+    _ (λ refused is values before here.
+    rw c.in-Link.is (subst (λ f. IsRefused f refused) (sym (link_is values before existing new)) (is values before here))) c.settle_link.ensures.err

@@ -13,13 +13,13 @@ returns-in-Err-clause-err c values before here =
     (sym (is_declared _ values _ _ here.declared c.contains_key.ensures) ∙ c.if-contains_key.false)
     (c.in-Err.ensures.err values before here)
 
-pub returns-then-not-branch-clause-err : goal.returns-then-not-branch-clause-err
-returns-then-not-branch-clause-err c values before here =
+pub returns-then-not-is_said-clause-err : goal.returns-then-not-is_said-clause-err
+returns-then-not-is_said-clause-err c values before here =
     link_unsaid values before _ _ (line_value c.line_of-led.result)
     (sym (is_declared _ values _ _ here.declared c.contains_key.ensures) ∙ c.if-contains_key.false)
     ((c.in-Ok.ensures.ok values before here).0 ∙ ap Ok (sym (c.line_of-led.ensures
     ∙ ap (λ names. line_at_place (map (λ one. one.now) names) c.in-Ok.place c.args.link.now.new.now) c.as_slice.ensures.value)))
-    (sym c.in_ok-write_said.ensures.said ∙ c.if-not-branch.true)
+    (sym c.in-Ok-write_said.ensures.said ∙ c.if-not-is_said.true)
 
 pub returns-clause-ok : goal.returns-clause-ok
 returns-clause-ok c values before here =
@@ -27,9 +27,9 @@ returns-clause-ok c values before here =
       link_said values before _ _ (line_value c.line_of-led.result)
           (sym (is_declared _ values _ _ here.declared c.contains_key.ensures) ∙ c.if-contains_key.false)
           (found.0 ∙ ap Ok (sym (c.line_of-led.ensures
-          ∙ ap (λ names. line_at_place (map (λ one. one.now) names) c.in-Ok.place c.args.link.now.new.now) c.as_slice.ensures.value))) (sym c.in_ok-write_said.ensures.said ∙ c.if-not-branch.false),
+          ∙ ap (λ names. line_at_place (map (λ one. one.now) names) c.in-Ok.place c.args.link.now.new.now) c.as_slice.ensures.value))) (sym c.in-Ok-write_said.ensures.said ∙ c.if-not-is_said.false),
       found.1,
     )
 
 pub returns-clause-text : goal.returns-clause-text
-returns-clause-text c = link_text _ (line_value c.line_of-led.result) c.in_ok-write_said.ensures.text
+returns-clause-text c = link_text _ (line_value c.line_of-led.result) c.in-Ok-write_said.ensures.text

@@ -1,19 +1,19 @@
-use Rattle.std.proofs.Common.{◌∙◌, sym, map, refl, rules, to_z-of_z, FitsSigned, w64}
+use Rattle.std.proofs.{Common.{◌∙◌, sym, map, refl, rules, to_z-of_z, FitsSigned, w64}, lemmas.Result.{IfOk-weaker}}
 use Rattle.zone_values.specs.Values.{line_value}
 use Rattle.zone_plain.{specs.Shown.{parts_shown, pair_shown, text_in}, proofs.OutLemmas.{out_total_at, out_under, out_of_same}}
 use Rattle.zone_plain.proofs.offsets.write_line.Goals as goal
 
-pub returns-in_ok-is_said-in-Total : goal.returns-in_ok-is_said-in-Total
-returns-in_ok-is_said-in-Total c =
+pub returns-in-Total : goal.returns-in-Total
+returns-in-Total c =
     let fits : FitsSigned w64 c.in-Total.total = search rules in
-    out_of_same _ _ _ _ _ _ _ _ _ _ _ c.line_in-line.ensures
+    IfOk-weaker c.add_with_total.result _ _ (λ said added. out_of_same _ _ _ _ _ _ _ _ _ _ said c.line_in-line.ensures
     (out_total_at (map line_value c.args.lines.now) c.args.mark.now c.args.pairs.now c.args.made.now.items (text_in c.args.out.now) _ _
-    (parts_shown c.in-Total.parts) _ c.in-Total.total _ (to_z-of_z fits) (sym c.in-Total.ensures) refl refl c.in_ok-is_said-in-Total.ensures)
+    (parts_shown c.in-Total.parts) _ c.in-Total.total said (to_z-of_z fits) (sym c.in-Total.ensures) refl refl added)) c.add_with_total.ensures
 
-pub returns-in_ok-is_said-in-Under : goal.returns-in_ok-is_said-in-Under
-returns-in_ok-is_said-in-Under c =
-    out_of_same _ _ _ _ _ _ _ _ _ _ _ c.line_in-line.ensures
+pub returns-else-not-are_said : goal.returns-else-not-are_said
+returns-else-not-are_said c =
+    IfOk-weaker c.add_under.result _ _ (λ said added. out_of_same _ _ _ _ _ _ _ _ _ _ said c.line_in-line.ensures
     (out_under (map line_value c.args.lines.now) c.args.mark.now c.args.pairs.now c.name_pair.new.pairs c.args.made.now.items c.name_pair.new.made.items
-    (text_in c.args.out.now) _ _ (parts_shown c.in-Under.parts) (pair_shown c.in-Under.pair) _ _ _ (sym c.in-Under.ensures)
-    c.in_ok-name-in-Under.ensures.pairs (c.as_str-name.ensures.value ∙ c.in_ok-name-in-Under.ensures.name) c.in_ok-name-in-Under.ensures.rules
-    c.if-not-are_said.false refl refl c.in_ok-is_said-in-Under.ensures)
+    (text_in c.args.out.now) _ _ (parts_shown c.in-Under.parts) (pair_shown c.in-Under.pair) _ _ said (sym c.in-Under.ensures)
+    c.in_ok-name-in-Under.ensures.pairs (c.as_str.ensures.value ∙ c.in_ok-name-in-Under.ensures.name) c.in_ok-name-in-Under.ensures.rules
+    c.if-not-are_said.false refl refl added)) c.add_under.ensures

@@ -1,5 +1,6 @@
+use Rattle.std.proofs.lemmas.Result.{IfOk-weaker}
 use Rattle.zone_plain.proofs.RebuiltLaws.{rebuilt}
 use Rattle.zone_plain.proofs.whole.plain.Goals as goal
 
-pub returns-in-Ok-clause-read : goal.returns-in-Ok-clause-read
-returns-in-Ok-clause-read c = rebuilt _ _ c.in-Ok.ensures.ok
+pub returns-clause-read : goal.returns-clause-read
+returns-clause-read c = IfOk-weaker c.plain_of.result _ _ (λ bytes. rebuilt _ bytes.items) c.plain_of.ensures.ok

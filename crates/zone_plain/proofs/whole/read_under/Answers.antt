@@ -18,7 +18,7 @@ returns-in-Err-clause-err c =
 
 pub loop-line-preserved : goal.loop-line-preserved
 loop-line-preserved c =
-    rw add-one (one_under _ _ _ _ _ _ _ _ _ _ _ (rw c.in-Some.ensures.steps at c.loop-line.invariant) c.in-Ok.ensures.ok)
+    rw add-one (one_under _ _ _ _ _ _ _ _ _ _ _ (rw c.in-Some.ensures.steps at c.loop-line.invariant) c.in-Ok-read_line.ensures.ok)
 
 pub returns-then-is_open-clause-err : goal.returns-then-is_open-clause-err
 returns-then-is_open-clause-err c =
