@@ -9,10 +9,11 @@ use crate::ever_table::{CYCLE, NEXT_SEAM, SEAM};
 use tz_lookup::{Stretch, stretch_of};
 
 /// The total offset of a zone that goes on for ever at a second, in seconds from 1970-01-01 00:00:00 UTC, and the seconds around it in
-/// its cycle in which no entry lies. From 2502 on the second is brought back, at the cost of a division.
+/// its cycle in which no entry lies, of which it is one. From 2502 on the second is brought back, at the cost of a division.
 pub fn ever_stretch(ever: &EverSet, second: i64) -> Stretch
     requires { second ≤ℤ pos far_seconds }
-    ensures { IsStretch (ever_total (ever_seen ever.now)) second result }
+    ensures is { IsStretch (ever_total (ever_seen ever.now)) second result }
+    ensures lasts { second <ℤ result.until }
 {
     if second < NEXT_SEAM {
         first_stretch(ever, second)
@@ -24,7 +25,8 @@ pub fn ever_stretch(ever: &EverSet, second: i64) -> Stretch
 /// The same before 2502.
 fn first_stretch(ever: &EverSet, second: i64) -> Stretch
     requires { second <ℤ next_seam_second }
-    ensures { IsStretch (ever_total (ever_seen ever.now)) second result }
+    ensures is { IsStretch (ever_total (ever_seen ever.now)) second result }
+    ensures lasts { second <ℤ result.until }
 {
     let found = stretch_of(ever.compact(), second);
     let until = to_seam(found.until);
@@ -40,7 +42,8 @@ fn later_stretch(ever: &EverSet, second: i64, cycles: usize) -> Stretch
     requires few { cycles ≤ 40 }
     requires begun { (seam_second +ℤ pos (cycles * 12622780800)) ≤ℤ second }
     requires lasts { second <ℤ (seam_second +ℤ pos ((cycles + 1) * 12622780800)) }
-    ensures { IsStretch (ever_total (ever_seen ever.now)) second result }
+    ensures is { IsStretch (ever_total (ever_seen ever.now)) second result }
+    ensures lasts { second <ℤ result.until }
 {
     let found = stretch_of(ever.compact(), earlier(second, cycles));
     let from = later(from_seam(found.from), cycles);
@@ -94,6 +97,7 @@ fn from_seam(second: i64) -> i64
 fn to_seam(second: i64) -> i64
     ensures seam { result ≤ℤ next_seam_second }
     ensures second { result ≤ℤ second }
+    ensures greatest { (x : ℤ) → x <ℤ next_seam_second → x <ℤ second → x <ℤ result }
 {
     if second < NEXT_SEAM {
         second

@@ -20,9 +20,11 @@ pub struct Stretch {
     pub offset: i32,
 }
 
-/// The total offset of a set at a second, in seconds from 1970-01-01 00:00:00 UTC, and the seconds around it in which no entry lies.
+/// The total offset of a set at a second, in seconds from 1970-01-01 00:00:00 UTC, and the seconds around it in which no entry lies. It is
+/// one of them where there is a later one.
 pub fn stretch_of(set: &CompactSet, second: i64) -> Stretch
-    ensures { IsStretch (total_at (schedule_of (seen set.now))) second result }
+    ensures is { IsStretch (total_at (schedule_of (seen set.now))) second result }
+    ensures lasts { second <ℤ i64.MAX → second <ℤ result.until }
 {
     stretch_under::<Brand>(set, second, Blank::new(1))
 }
@@ -31,7 +33,8 @@ fn stretch_under<L: Ledger>(set: &CompactSet, second: i64, blank: Blank) -> Stre
     requires name { blank.name ≡ L.name }
     requires parts { blank.parts ≡ L.parts }
     requires some { 0 < L.parts }
-    ensures { IsStretch (total_at (schedule_of (seen set.now))) second result }
+    ensures is { IsStretch (total_at (schedule_of (seen set.now))) second result }
+    ensures lasts { second <ℤ i64.MAX → second <ℤ result.until }
 {
     let mut steps: Steps<L> = Steps::new(blank);
     let span = span_of(set, second, &mut steps);

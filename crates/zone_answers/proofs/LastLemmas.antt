@@ -1,11 +1,11 @@
 -- A request for an instant whose line's last digits are others asks for another instant.
-use Rattle.std.proofs.Common.{◌≡◌, ℕ, ◌+◌, ◌*◌, ◌<◌, ◌≤◌, Bool, true, false, not, ◌&&◌, cond, List, [], ◌∷◌, ◌++◌, length, take, drop, Option, Some, None, option_map, ℤ, pos, neg_ℤ, ◌+ℤ◌, ◌<ℤ◌, ◌≤ℤ◌, eqb, nat_lt, nat_le, ◌^◌, lit<, refl, sym, ap, ◌∙◌, subst, arith, length-append, length-drop}
-use Rattle.std.proofs.lemmas.{Bool.{and_parts, and_from, ltb-true, leb-true, true≢false}, Int.{ints}, Int.Digits.{digits_value-lt}, List.{drop-append-le, take-append-le}, List.Folds.{list_all-append, prefix_len-append}, Option.{none-some}, Str.Parse.{digit_from_value}}
+use Rattle.std.proofs.Common.{◌≡◌, ℕ, ◌+◌, ◌-◌, ◌*◌, ◌<◌, ◌≤◌, Bool, true, false, not, ◌&&◌, cond, List, [], ◌∷◌, ◌++◌, length, take, drop, Option, Some, None, option_map, ℤ, pos, neg_ℤ, ◌+ℤ◌, ◌<ℤ◌, ◌≤ℤ◌, eqb, nat_lt, nat_le, ◌^◌, lit<, refl, sym, ap, ◌∙◌, subst, arith, length-append, length-drop}
+use Rattle.std.proofs.lemmas.{Bool.{and_parts, and_from, ltb-true, leb-true, true≢false}, Int.{ints}, Int.Digits.{digits_value-lt}, List.{drop-append-le, drop-drop, take-append-drop, take-append-le}, List.Folds.{list_all-append, prefix_len-append}, Option.{none-some}, Str.Parse.{digit_from_value}}
 use Rattle.std.proofs.Math.Nat.{pow-le-pow_right}
 use Rattle.std.specs.{Prelude.{bytes_eq, codes}, Char.{digit_value, is_digit}, List.{after_first, before_first, list_all, position_or_len}, Str.Parse.{digits_value, digits_value_after}}
 use Rattle.civil_base.specs.LocalTimes.{local_time_in}
 use Rattle.zone_answers.proofs.RequestLemmas.{digits_from}
-use Rattle.zone_answers.specs.{Requests.{Request, at, local, is_negative, is_number, is_space, nanoseconds_in, request_of, request_with}}
+use Rattle.zone_answers.specs.{Requests.{Request, at, local, is_negative, is_number, is_space, nanoseconds_in, request_of, request_with}, SameDays.{AreLast, last_of}}
 
 -- ---- the first space, where one lies in front of the last digits
 
@@ -223,6 +223,50 @@ long_value text n is large = by_length (nat_le (length text) 14) refl
         let most : 10 ^ length text ≤ 10 ^ 14 = pow-le-pow_right (lit< tt) (leb-true _ _ e) in
         absurd (omega (arith, ints, large, it.value, digits_value-lt 10 text (digits_from text digits), most))
     by_length false e = grind (arith, e)
+
+-- what a late instant's line ends with
+pub record EndsInDigits (line : List ℕ) : Type 0 where
+  pub long : 14 < length line
+  pub last : AreLast (last_of line)
+
+-- a line that asks for a late instant ends in the digits of its number
+pub late_digits : (line wanted : List ℕ) (n : ℤ) → request_of line ≡ Some (at wanted n) → pos (10 ^ 14) ≤ℤ n → EndsInDigits line
+unfolding rest_of
+late_digits line wanted n is large = record {
+  long = omega (arith, long, whole);
+  last = record { count = omega (arith, long, whole, length-drop (length line - 14) line); digits = ap all_digits same ∙ last };
+}
+  where
+    value : List ℕ
+    value = rest_of (rest_of line)
+
+    reads : nanoseconds_in value ≡ Some n
+    reads = (reads_at line wanted n is).asks.value
+
+    long : 14 < length value
+    long = long_value value n reads large
+
+    digits : all_digits value ≡ true
+    digits = (and_parts (nat_lt 0 (length value) && nat_le (length value) 30) _ (is_plain value n reads (omega (arith, ints, large))).number).1
+
+    first : ℕ
+    first = position_or_len is_space line + 1
+
+    second : ℕ
+    second = position_or_len is_space (rest_of line) + 1
+
+    whole : length value + first + second ≡ length line
+    whole = omega (arith, long, length-drop second (rest_of line), length-drop first line)
+
+    same : last_of line ≡ last_of value
+    same =
+        ap (λ k. drop k line) (omega (arith, long, whole))
+        ∙ sym (drop-drop (second + (length value - 14)) first line) ∙ sym (drop-drop (length value - 14) second (rest_of line))
+
+    last : all_digits (last_of value) ≡ true
+    last =
+        (and_parts (all_digits (take (length value - 14) value)) _ (sym (list_all-append (λ c. is_digit c 10) (take (length value - 14) value) (last_of value))
+        ∙ ap all_digits (take-append-drop (length value - 14) value) ∙ digits)).1
 
 pub record IsOther (front last next wanted : List ℕ) (n : ℤ) : Type 0 where
   pub number : ℤ

@@ -12,6 +12,7 @@ pub mod MadeLemmas
 pub mod SummaryLemmas
 pub mod GenerateRows
 mod EndRows
+mod DayRows
 pub mod LastLemmas
 pub mod DayLemmas
 pub mod SameDayLemmas

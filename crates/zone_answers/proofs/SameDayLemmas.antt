@@ -1,13 +1,13 @@
 -- What answers requests for instants of one local day at one offset.
-use Rattle.std.proofs.{Common.{◌≡◌, ℕ, ◌+◌, ◌-◌, ◌^◌, ◌%◌, ◌<◌, ◌≤◌, true, cond, List, ◌++◌, length, Some, None, Ok, ℤ, pos, ◌+ℤ◌, ◌≤ℤ◌, ◌<ℤ◌, refl, sym, ap, ◌∙◌, subst, arith}, lemmas.Bool.{and_from}, lemmas.Int.{ints}, lemmas.List.{append-nil}, lemmas.Str.{IsUtf8-append, IsUtf8-from_ascii, is_utf8-from_IsUtf8}, lemmas.Fmt.{IsAscii-from_digits}}
-use Rattle.std.specs.{Str.{IsUtf8}, Str.Parse.{digits_value}}
+use Rattle.std.proofs.{Common.{◌≡◌, ◌≢◌, ℕ, Bool, ◌+◌, ◌-◌, ◌^◌, ◌%◌, ◌<◌, ◌≤◌, true, false, cond, List, ◌++◌, get_or, length, take, Some, None, Ok, ℤ, pos, ◌+ℤ◌, ◌≤ℤ◌, ◌<ℤ◌, refl, sym, ap, ◌∙◌, subst, arith}, lemmas.Bool.{and_from, eq-eqb, le-leb, le-ltb, lt-leb, lt-ltb, ne_eqb}, Math.Bool.{and-false}, lemmas.Int.{ints}, lemmas.List.{append-nil, get_or-take, take-append-drop}, lemmas.Str.{IsCharBoundary-from_drop, IsUtf8-append, IsUtf8-from_ascii, IsUtf8-from_is_utf8, IsUtf8-take, is_utf8-from_IsUtf8}, lemmas.Fmt.{IsAscii-from_digits}}
+use Rattle.std.specs.{Prelude.{◌&&◌, ◌==◌, bytes_eq, nat_le, nat_lt}, Cmp.Lexicographic.{bytes_decides}, Str.{IsUtf8, is_utf8}, Str.Parse.{digits_value}}
 use Rattle.basics.specs.SignedLaws.{signed}
 use Rattle.civil_base.specs.{Instants.{local_at, nanos_of, seconds_of}, Layout.{time_part, zoned_text}, RangeLaws.{offset_least, offset_greatest, years_between}, Ranges.{IsOffset}}
 use Rattle.zone_spans.specs.Schedules.{Schedule, total_at}
 use Rattle.tz_zone.specs.{SecondLaws.{IsSecond, one_second, second_is, total_is}, Spans.{total_from}}
 use Rattle.tz_lookup.specs.{Stretches.{IsKnown}, declared.stretch.Stretch.{Stretch}}
-use Rattle.zone_answers.specs.{AskedLaws.{Asks}, Due.{answer_text, shown_at}, Faults.{has_dates, range}, Found.{Found}, Requests.{at, request_of}, SameDayLaws.{in_seconds}, SameDays.{AreLast, IsAdded, IsAnswered, IsAround, IsBefore, IsSameDay, IsThroughout, at_time}}
-use Rattle.zone_answers.proofs.{DayLemmas.{IsSameDate, other_time, same_date}, LastLemmas.{IsOther, all_digits, other_request}, ReadBackLemmas.{line_back}, RequestLemmas.{digits_from}, RefusalLemmas.{dates_are, line_is}}
+use Rattle.zone_answers.specs.{AskedLaws.{Asks}, Due.{answer_text, shown_at}, Faults.{has_dates, range}, Found.{Found}, Requests.{at, request_of}, SameDayLaws.{in_seconds}, SameDays.{AreLast, IsAdded, IsAnswered, IsAround, IsBefore, IsSameDay, IsThroughout, are_alike, at_time, front_of, is_of, last_instant, last_of}, declared.same_day.SameDay.{SameDay}}
+use Rattle.zone_answers.proofs.{DayLemmas.{IsSameDate, other_time, same_date}, LastLemmas.{EndsInDigits, IsOther, all_digits, late_digits, other_request}, ReadBackLemmas.{line_back}, RequestLemmas.{digits_from}, RefusalLemmas.{dates_are, line_is}}
 
 -- a request for an instant of a zone that was found, its line, and what is in force there
 pub record IsAsked (names : List ℕ → Found) (total : ℤ → ℤ) (front end name : List ℕ) (n : ℤ) (shown : List ℕ) : Type 0 where
@@ -17,7 +17,7 @@ pub record IsAsked (names : List ℕ → Found) (total : ℤ → ℤ) (front end
   pub found : names name ≡ Ok total
   pub small : (t : ℤ) → IsOffset (total t)
   pub late : pos (10 ^ 14) ≤ℤ n
-  pub early : n ≤ℤ pos 7000000000000000000
+  pub early : n ≤ℤ pos last_instant
   pub line : shown ≡ zoned_text n (total n)
   pub long : length shown ≡ 39
 
@@ -93,21 +93,95 @@ pub time_of : (x : ℤ) (n : ℕ) → pos n ≡ x → time_part x ≡ n % 864000
 unfolding time_part
 time_of x n is = omega (arith, signed, is)
 
+-- a request for a late instant ends in digits
+pub ends_in : (text name : List ℕ) (now : ℕ) → Asks request_of text (at name (pos now)) → 10 ^ 14 ≤ now → EndsInDigits text
+ends_in text name now asks late = late_digits text name (pos now) asks.reads (omega (arith, ints, late))
+
+-- and what stands in front of them is text
+front_text : (text : List ℕ) → is_utf8 text ≡ true → EndsInDigits text → IsUtf8 (front_of text)
+front_text text is ends =
+    IsUtf8-take text (length text - 14) (IsUtf8-from_is_utf8 text is)
+    (IsCharBoundary-from_drop text (length text - 14) (omega arith) (ascii (last_of text) ends.last.digits))
+
+-- when a line is one of a day, and when not
+module _ (day : SameDay) (before line : List ℕ) where
+  abbrev pub number : ℕ
+  number = digits_value 10 (last_of line)
+
+  pub not_alike : are_alike before line ≡ false → is_of day before line ≡ false
+  unfolding is_of
+  not_alike e = ap (λ b. b && all_digits (last_of line) && nat_le day.from number && nat_lt number day.until) e
+
+  pub no_digits : all_digits (last_of line) ≡ false → is_of day before line ≡ false
+  unfolding is_of
+  no_digits e =
+      ap (λ b. are_alike before line && b && nat_le day.from number && nat_lt number day.until) e
+      ∙ ap (λ b. b && nat_le day.from number && nat_lt number day.until) (and-false (are_alike before line))
+
+  pub number_before : number < day.from → is_of day before line ≡ false
+  unfolding is_of
+  number_before l =
+      ap (λ b. are_alike before line && all_digits (last_of line) && b && nat_lt number day.until) (lt-leb _ _ l)
+      ∙ ap (λ b. b && nat_lt number day.until) (and-false (are_alike before line && all_digits (last_of line)))
+
+  pub number_past : day.until ≤ number → is_of day before line ≡ false
+  unfolding is_of
+  number_past l =
+      ap (λ b. are_alike before line && all_digits (last_of line) && nat_le day.from number && b) (le-ltb _ _ l)
+      ∙ and-false (are_alike before line && all_digits (last_of line) && nat_le day.from number)
+
+  pub one_of : are_alike before line ≡ true → all_digits (last_of line) ≡ true → day.from ≤ number → number < day.until → is_of day before line ≡ true
+  unfolding is_of
+  one_of alike digits low high = and_from _ _ (and_from _ _ (and_from _ _ alike digits) (le-leb _ _ low)) (lt-ltb _ _ high)
+
+-- when two lines are alike, and when not
+pub other_length : (one other : List ℕ) → length one ≢ length other → are_alike one other ≡ false
+unfolding are_alike
+other_length one other differ = ap (λ b. b && nat_lt 14 (length one) && bytes_eq (front_of one) (front_of other)) (ne_eqb _ _ differ)
+
+pub too_short : (one other : List ℕ) → length one ≤ 14 → are_alike one other ≡ false
+unfolding are_alike
+too_short one other short =
+    ap (λ b. length one == length other && b && bytes_eq (front_of one) (front_of other)) (le-ltb _ _ short)
+    ∙ ap (λ b. b && bytes_eq (front_of one) (front_of other)) (and-false (length one == length other))
+
+module _ (one other : List ℕ) (same : length one ≡ length other) (long : 14 < length one) where
+  abbrev pub end : ℕ
+  end = length one - 14
+
+  pub alike_is : are_alike one other ≡ bytes_eq (take end one) (take end other)
+  unfolding are_alike
+  alike_is =
+      ap (λ b. b && nat_lt 14 (length one) && bytes_eq (front_of one) (front_of other)) (eq-eqb _ _ same)
+      ∙ ap (λ b. b && bytes_eq (front_of one) (front_of other)) (lt-ltb _ _ long) ∙ ap (λ n. bytes_eq (front_of one) (take (n - 14) other)) (sym same)
+
+  pub other_end : get_or one (end - 1) 0 ≢ get_or other (end - 1) 0 → are_alike one other ≡ false
+  other_end differ = alike_is ∙ by_test (bytes_eq (take end one) (take end other)) refl
+    where
+      by_test : (b : Bool) → bytes_eq (take end one) (take end other) ≡ b → b ≡ false
+      by_test false e = refl
+      by_test true e = absurd (differ (sym (get_or-take end one (end - 1) 0 (omega (arith, long)))
+          ∙ ap (λ t. get_or t (end - 1) 0) ((bytes_decides (take end one) (take end other)).0 e) ∙ get_or-take end other (end - 1) 0 (omega (arith, long))))
+
+-- a line is alike itself
+pub self_alike : (line : List ℕ) → 14 < length line → are_alike line line ≡ true
+self_alike line long = alike_is line line refl long ∙ (bytes_decides (front_of line) (front_of line)).1 refl
+
 -- what is known of a request for an instant, its line and its zone
-pub asked_is : (names : List ℕ → Found) (total : ℤ → ℤ) (front end name text shown line : List ℕ) (n : ℤ) (now : ℕ) → n ≡ pos now
-    → front ++ end ≡ text → Asks request_of text (at name n) → IsUtf8 front → AreLast end → names name ≡ Ok total → ((t : ℤ) → IsOffset (total t))
-    → 10 ^ 14 ≤ now → now ≤ 7000000000000000000 → shown ≡ answer_text (shown_at total (at name n)) → line ≡ shown → length shown ≡ 39
-    → IsAsked names total front end name (pos now) line
+pub asked_is : (names : List ℕ → Found) (total : ℤ → ℤ) (text name shown line : List ℕ) (now : ℕ) → Asks request_of text (at name (pos now))
+    → EndsInDigits text → names name ≡ Ok total → ((t : ℤ) → IsOffset (total t)) → 10 ^ 14 ≤ now → now ≤ last_instant
+    → shown ≡ answer_text (shown_at total (at name (pos now))) → line ≡ shown → length shown ≡ 39
+    → IsAsked names total (front_of text) (last_of text) name (pos now) line
 unfolding shown_at
-asked_is names total front end name text shown line n now is cut asks utf8 digits found small late early told same long = record {
-  asks = subst (λ t. Asks request_of t (at name (pos now))) (sym cut) (subst (λ m. Asks request_of text (at name m)) is asks);
-  text = utf8;
-  last = digits;
+asked_is names total text name shown line now asks ends found small late early told same long = record {
+  asks = subst (λ t. Asks request_of t (at name (pos now))) (sym (take-append-drop (length text - 14) text)) asks;
+  text = front_text text asks.text ends;
+  last = ends.last;
   found = found;
   small = small;
   late = omega (arith, ints, late);
   early = omega (arith, ints, early);
-  line = same ∙ told ∙ append-nil (zoned_text n (total n)) ∙ ap (λ m. zoned_text m (total m)) is;
+  line = same ∙ told ∙ append-nil (zoned_text (pos now) (total (pos now)));
   long = ap length same ∙ long;
 }
 

@@ -1,7 +1,7 @@
 -- The zones that were asked for so far.
 use Rattle.std.specs.{FinMap.{get}, Prelude.{◌≡◌, IfSome, IsSomeAnd, ℕ, List, Ok, slice_get}}
 use Rattle.zone_table.specs.{BoundedTables.{IsBoundedTable}, declared.table.Table.{Table}}
-use Rattle.zone_answers.specs.{Found.{found_in_table}, SameDays.{IsSameDay, front_of}, declared.opened.Zones.{Zones}, declared.opened.OpenedZone.{Ghosts}}
+use Rattle.zone_answers.specs.{Found.{found_in_table}, SameDays.{IsSameDay, front_of, last_instant}, declared.opened.Zones.{Zones}, declared.opened.OpenedZone.{Ghosts}}
 
 -- the zone has the totals that the name finds in the table
 abbrev pub IsOpened : {Z : Type 0} → Ghosts Z → Table → List ℕ → Z → Type 0
@@ -20,4 +20,4 @@ pub record AreOpened {Z : Type 0} (kind : Ghosts Z) (zones : Zones Z) : Type 0 w
   pub bounded : IsBoundedTable (table_of zones)
   pub each : (name : List ℕ) → IfSome (get zones.places name) (IsPlaced kind (table_of zones) zones.opened name)
   pub last : IfSome zones.last (λ last. IsPlaced kind (table_of zones) zones.opened last.name.now last.place)
-  pub day : IfSome zones.day (IsSameDay (found_in_table kind.read (table_of zones)) 7000000000000000000 (front_of zones.before.now))
+  pub day : IfSome zones.day (IsSameDay (found_in_table kind.read (table_of zones)) last_instant (front_of zones.before.now))

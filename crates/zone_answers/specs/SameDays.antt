@@ -1,8 +1,12 @@
 -- Requests for instants of one local day, whose lines differ in the last digits alone: their answers' lines differ in the time of day.
-use Rattle.std.specs.{Prelude.{◌≡◌, ℕ, ◌+◌, ◌-◌, ◌≤◌, ◌<◌, ◌++◌, ◌∷◌, true, ℤ, pos, ◌≤ℤ◌, ◌<ℤ◌, All, List, Option, Some, None, length, take, drop}, Char.{is_digit}, List.{list_all}, Str.Parse.{digits_value}}
+use Rattle.std.specs.{Prelude.{◌≡◌, ℕ, ◌+◌, ◌-◌, ◌≤◌, ◌<◌, ◌++◌, ◌∷◌, ◌==◌, ◌&&◌, Bool, true, false, ℤ, pos, ◌≤ℤ◌, ◌<ℤ◌, int_le, int_lt, nat_le, nat_lt, All, List, Option, Some, None, length, take, drop}, Char.{is_digit}, List.{list_all}, Str.{bytes_eq}, Str.Parse.{digits_value}}
 use Rattle.civil_base.specs.{Clock.{nanos_per_day}, Instants.{local_at, nanos_of}, Layout.{time_part, time_text}}
 use Rattle.tz_lookup.specs.declared.stretch.Stretch.{Stretch}
 use Rattle.zone_answers.specs.{Due.{answer_line, shown_for}, Faults.{request_refusal}, Found.{Found}, ReadBack.{IsReadBack}, Requests.{Request, at, local, request_of}, declared.same_day.SameDay.{SameDay}}
+
+-- 2191-10-27, in nanoseconds from 1970-01-01 00:00:00 UTC: later instants are answered one by one
+abbrev pub last_instant : ℕ
+last_instant = 7000000000000000000
 
 -- an instant before the latest is asked for
 abbrev pub IsBefore : ℕ → Option Request → Type 0
@@ -31,6 +35,29 @@ pub record AreLast (last : List ℕ) : Type 0 where
 abbrev pub front_of : List ℕ → List ℕ
 front_of line = take (length line - 14) line
 
+-- the last fourteen bytes of a line
+abbrev pub last_of : List ℕ → List ℕ
+last_of line = drop (length line - 14) line
+
+-- two lines are as long, and may differ in the last fourteen of more bytes alone
+unfoldable pub are_alike : List ℕ → List ℕ → Bool
+are_alike one other = length one == length other && nat_lt 14 (length one) && bytes_eq (front_of one) (front_of other)
+
+-- the line is like one of the day's, but for last digits that write a number of the day's
+unfoldable pub is_of : SameDay → List ℕ → List ℕ → Bool
+is_of day before line =
+    are_alike before line && list_all (λ c. is_digit c 10) (last_of line) && nat_le day.from (digits_value 10 (last_of line))
+    && nat_lt (digits_value 10 (last_of line)) day.until
+
+-- an instant is asked for, from 1970-01-02 03:46:40 UTC up to the latest
+unfoldable pub is_near : ℕ → Request → Bool
+is_near latest (at name instant) = int_le (pos 100000000000000) instant && int_lt instant (pos latest)
+is_near latest (local name time) = false
+
+-- and is answered by as many bytes as those of the years 0 to 9999
+abbrev pub has_day : ℕ → Request → List ℕ → Bool
+has_day latest request shown = is_near latest request && length shown == 39
+
 -- a line with another time of day
 abbrev pub at_time : List ℕ → ℕ → List ℕ
 at_time line nanos = take 10 line ++ (32 ∷ time_text nanos) ++ drop 29 line
@@ -42,7 +69,7 @@ pub record IsSameDay (names : List ℕ → Found) (latest : ℕ) (front : List �
   pub each : (last : List ℕ) → AreLast last → day.from ≤ digits_value 10 last → digits_value 10 last < day.until
       → IsAnswered names latest (front ++ last) (at_time day.line (day.begins + (digits_value 10 last - day.from)))
 
--- one total is in force at each instant of the stretch's seconds, of which there may be none
+-- one total is in force at each instant of the stretch's seconds
 abbrev pub IsThroughout : (ℤ → ℤ) → Stretch → Type 0
 IsThroughout total stretch = (t : ℤ) → nanos_of stretch.from ≤ℤ t → t <ℤ nanos_of stretch.until → total t ≡ stretch.offset
 

@@ -1,8 +1,8 @@
 //! Zones that requests name, each opened once and kept.
-ghost use Rattle.std.specs.Prelude.{◌≡◌, ◌++◌, ℤ, pos, ◌≤ℤ◌, false, IfErr, IfOk, IsTrue, Ok, OnErr, []};
+ghost use Rattle.std.specs.Prelude.{◌≡◌, ◌++◌, ℤ, pos, ◌≤ℤ◌, ◌<ℤ◌, false, IfErr, IfOk, IsTrue, Ok, OnErr, []};
 ghost use Rattle.civil_base.specs.Ranges.{far_seconds, IsOffset};
 ghost use Rattle.zone_table.specs.{BoundedTables.{IsBoundedTable}, Resolved.{resolved_in}};
-ghost use Rattle.zone_answers.specs.{Asked.{asked}, Due.{answer_text, shown_at}, Faults.{has_dates, zone_refusal}, Found.{Reading, found_in_table}, Requests.{IsSpelled}, SameDays.{IsAdded, IsSameDay, IsThroughout, front_of}, Told.{TellsReading}};
+ghost use Rattle.zone_answers.specs.{Asked.{asked}, Due.{answer_text, shown_at}, Faults.{has_dates, zone_refusal}, Found.{Reading, found_in_table}, Requests.{IsSpelled}, SameDays.{IsAdded, IsSameDay, IsThroughout, front_of, last_instant}, Told.{TellsReading}};
 
 use crate::error::ReadingError;
 use crate::request::Request;
@@ -30,17 +30,12 @@ pub trait OpenedZone: Drop {
         ensures ok { IfOk result (λ zone. found_in_table read table.now name.now ≡ Ok (total_at zone)) }
         ensures err { IfErr result (TellsReading (zone_refusal number (found_in_table read table.now name.now))) };
 
-    /// Seconds around one throughout which one total is in force; there may be none. They count from 1970-01-01 00:00:00 UTC.
+    /// Seconds around one throughout which one total is in force. They count from 1970-01-01 00:00:00 UTC, and it is one of them.
     fn stretch_at(&self, second: i64) -> Stretch
         requires { second ≤ℤ pos far_seconds }
-        ensures { IsThroughout (total_at self.now) result }
-    {
-        Stretch {
-            from: second,
-            until: second,
-            offset: 0,
-        }
-    }
+        ensures throughout { IsThroughout (total_at self.now) result }
+        ensures begun { result.from ≤ℤ second }
+        ensures lasts { second <ℤ result.until };
 
     /// Adds the line of a request of the zone to a text, without its LF. It adds none and answers no where the UTC date or the local
     /// date of an asked instant lies outside the years -9999 to 9999.
@@ -175,7 +170,7 @@ impl<'t, 'r, Z: OpenedZone> Zones<'t, 'r, Z> {
     /// day alone.
     pub(crate) fn show_again(&self, request: &[u8], text: &mut Vec<u8>) -> Result<bool, AllocError>
         requires { AreOpened Z.OpenedZone self.now }
-        ensures { IfOk result (λ has. IsTrue has → IsAdded (found_in_table Z.read (table_of self.now)) 7000000000000000000 request.now [] text.new.items) }
+        ensures { IfOk result (λ has. IsTrue has → IsAdded (found_in_table Z.read (table_of self.now)) last_instant request.now [] text.new.items) }
     {
         match &self.day {
             Some(day) => {
@@ -189,7 +184,7 @@ impl<'t, 'r, Z: OpenedZone> Zones<'t, 'r, Z> {
     /// Keeps the text of a request that was answered by itself, and those of the same day.
     pub(crate) fn keep(&mut self, text: &'r str, day: Option<SameDay>)
         requires opened { AreOpened Z.OpenedZone self.old }
-        requires day { IfSome day (IsSameDay (found_in_table Z.read (table_of self.old)) 7000000000000000000 (front_of text.now)) }
+        requires day { IfSome day (IsSameDay (found_in_table Z.read (table_of self.old)) last_instant (front_of text.now)) }
         ensures same { table_of self.new ≡ table_of self.old }
         ensures opened { AreOpened Z.OpenedZone self.new }
     {

@@ -180,16 +180,13 @@ fn front_of(digits: &[u8], count: usize) -> u64
     front
 }
 
-/// The number that 14 digits write, if it is so many and digits alone.
-pub(crate) fn last_digits(text: &[u8]) -> Option<u64>
-    ensures some { IfSome result (λ number. AreLast text.now × (number ≡ digits_value 10 text.now)) }
-    ensures bound { IfSome result (λ number. number < 100000000000000) }
+/// The number that fourteen digits write.
+pub(crate) fn last_number(digits: &[u8]) -> u64
+    requires { AreLast digits.now }
+    ensures value { result ≡ digits_value 10 digits.now }
+    ensures bound { result < 100000000000000 }
 {
-    if text.len() == 14 && is_number(text) {
-        Some(front_of(text, 14))
-    } else {
-        None
-    }
+    front_of(digits, 14)
 }
 
 /// The number of that size, below zero or not.
@@ -223,7 +220,8 @@ fn is_number(digits: &[u8]) -> bool
     !digits.is_empty() && digits.len() <= MOST_DIGITS && all_digits(digits)
 }
 
-fn all_digits(text: &[u8]) -> bool
+/// Whether these are digits alone.
+pub(crate) fn all_digits(text: &[u8]) -> bool
     ensures { result ≡ list_all (λ c. is_digit c 10) text.now }
 {
     // Each is looked at, whatever the others are, so that many are looked at at once.

@@ -1,11 +1,11 @@
 //! Requests for instants of one local day whose lines differ in the last digits alone, as those of a log do: the answer to one is that to
 //! another with its own time of day.
-ghost use Rattle.std.specs.{Prelude.{◌≡◌, ◌+◌, ◌-◌, ◌*◌, ◌≤◌, ◌<◌, ◌++◌, ℕ, ℤ, pos, ◌≤ℤ◌, ◌<ℤ◌, List, IfOk, IfSome, IsTrue, Ok, OnErr, false, length}};
+ghost use Rattle.std.specs.{Prelude.{◌≡◌, ◌+◌, ◌-◌, ◌*◌, ◌/◌, ◌≤◌, ◌<◌, ◌++◌, ◌==◌, ◌&&◌, ℕ, ℤ, pos, ◌≤ℤ◌, ◌<ℤ◌, int_le, int_lt, List, IfOk, IfSome, IsTrue, Ok, OnErr, true, false, is_some, length}};
 ghost use Rattle.civil_base.specs.{Clock.{nanos_per_day}, Instants.{local_at, nanos_of}, Ranges.{IsOffset}};
-ghost use Rattle.zone_answers.specs.{Asked.{asked}, AskedLaws.{Asks}, Due.{answer_text, shown_at}, Found.{Found}, Requests.{name_of, request_of}, SameDays.{IsAdded, IsAround, IsSameDay, at_time, front_of}};
+ghost use Rattle.zone_answers.specs.{Asked.{asked}, AskedLaws.{Asks}, Due.{answer_text, shown_at}, Found.{Found}, Requests.{at, name_of, request_of}, SameDays.{IsAdded, IsAround, IsSameDay, are_alike, at_time, front_of, has_day, is_near, is_of, last_instant}};
 
 use crate::opened::OpenedZone;
-use crate::request::{Request, last_digits};
+use crate::request::{Request, all_digits, last_number};
 use civil_base::spaced_time;
 use std::alloc::AllocError;
 use tz_lookup::Stretch;
@@ -38,8 +38,10 @@ pub struct SameDay {
 }
 
 impl SameDay {
-    /// Those of the day of a request at the zone whose line is this text and which is answered by this line, if they can be told. They ask
-    /// for instants before the latest, in nanoseconds from 1970-01-01 00:00:00 UTC, which is at most 7,000,000,000,000,000,000.
+    /// Those of the day of a request at the zone whose line is this text and which is answered by this line. They ask for instants before
+    /// the latest, in nanoseconds from 1970-01-01 00:00:00 UTC, which is at most 7,000,000,000,000,000,000. The request is one of them. None
+    /// exactly where it asks for no instant, for one before 1970-01-02 03:46:40 UTC or for one that isn't before the latest, or where the
+    /// line that answers it isn't as long as those of the years 0 to 9999, 39 bytes.
     pub fn of<Z: OpenedZone>(
         zone: &Z,
         text: &str,
@@ -47,21 +49,19 @@ impl SameDay {
         shown: &[u8],
         latest: u64,
     ) -> Option<SameDay>
-        requires { latest ≤ 7000000000000000000 }
-        ensures { IfSome result (λ day. (names : List ℕ → Found) → Asks request_of text.now (asked request.now)
-            → names (name_of (asked request.now)) ≡ Ok (Z.total_at zone.now)
-            → shown.now ≡ answer_text (shown_at (Z.total_at zone.now) (asked request.now)) → ((t : ℤ) → IsOffset (Z.total_at zone.now t))
-            → IsSameDay names latest (front_of text.now) day) }
+        requires latest { latest ≤ last_instant }
+        requires asks { Asks request_of text.now (asked request.now) }
+        requires range { (t : ℤ) → IsOffset (Z.total_at zone.now t) }
+        ensures day { IfSome result (λ day. (names : List ℕ → Found) → names (name_of (asked request.now)) ≡ Ok (Z.total_at zone.now)
+            → shown.now ≡ answer_text (shown_at (Z.total_at zone.now) (asked request.now)) → IsSameDay names latest (front_of text.now) day) }
+        ensures here { IfSome result (λ day. is_of day text.now text.now ≡ true) }
+        ensures told { is_some result ≡ has_day latest (asked request.now) shown.now }
     {
-        let Request::At(_, nanoseconds) = request else {
-            return None;
-        };
-        let now = near_instant(*nanoseconds, latest)?;
-        let (_, last) = text.split_at_checked(text.len().checked_sub(LAST)?)?;
-        let number = last_digits(last.as_bytes())?;
+        let now = asked_instant(request, latest)?;
         let line = whole_line(shown)?;
-        let around = Around::of(&zone.stretch_at((now / NANOS_PER_SECOND) as i64), now)?;
-        let base = now - number;
+        let bytes = text.as_bytes();
+        let base = now - last_number(&bytes[bytes.len() - LAST..]);
+        let around = Around::of(&zone.stretch_at((now / NANOS_PER_SECOND) as i64), now);
         let from = around.from.max(base);
         let until = around.until.min(base + LAST_NUMBERS).min(latest);
         Some(SameDay {
@@ -72,13 +72,15 @@ impl SameDay {
         })
     }
 
-    /// Adds the line that answers a request to a text, without its LF, if it is one of these; `before` is the line of one of them.
+    /// Adds the line that answers a request to a text, without its LF, if it is one of these; `before` is the line of one of them. It is
+    /// one of them exactly where the two are alike and its last fourteen bytes are digits that write one of their numbers.
     ///
     /// # Errors
     ///
     /// Want of memory alone. The text is as before then.
     pub fn add(&self, before: &[u8], request: &[u8], text: &mut Vec<u8>) -> Result<bool, AllocError>
         requires { self.now.begins + self.now.until ≤ self.now.from + nanos_per_day }
+        ensures told { IfOk result (λ has. has ≡ is_of self.now before.now request.now) }
         ensures line { IfOk result (λ has. IsTrue has → (names : List ℕ → Found) (latest : ℕ) → IsSameDay names latest (front_of before.now) self.now
             → IsAdded names latest request.now text.old.items text.new.items) }
         ensures none { IfOk result (λ has. has ≡ false → text.new.items ≡ text.old.items) }
@@ -87,9 +89,11 @@ impl SameDay {
         if !are_alike(before, request) {
             return Ok(false);
         }
-        let Some(number) = last_digits(&request[request.len() - LAST..]) else {
+        let last = &request[request.len() - LAST..];
+        if !all_digits(last) {
             return Ok(false);
-        };
+        }
+        let number = last_number(last);
         if number < self.from || self.until <= number {
             return Ok(false);
         }
@@ -98,8 +102,9 @@ impl SameDay {
     }
 }
 
-/// Whether the lines of two requests are as long and may differ in the last fourteen bytes alone.
+/// Whether the lines of two requests are as long, longer than fourteen bytes, and may differ in the last fourteen alone.
 pub fn are_alike(one: &[u8], other: &[u8]) -> bool
+    ensures is { result ≡ are_alike one.now other.now }
     ensures front { IsTrue result → front_of one.now ≡ front_of other.now }
     ensures long { IsTrue result → 14 ≤ length other.now }
 {
@@ -125,6 +130,7 @@ fn at_time(line: &[u8; 39], nanos: u64) -> [u8; 39]
 fn whole_line(line: &[u8]) -> Option<[u8; 39]>
     ensures same { IfSome result (λ whole. whole ≡ line.now) }
     ensures long { IfSome result (λ _. length line.now ≡ 39) }
+    ensures told { is_some result ≡ (length line.now == 39) }
 {
     if line.len() != 39 {
         return None;
@@ -134,10 +140,24 @@ fn whole_line(line: &[u8]) -> Option<[u8; 39]>
     Some(whole)
 }
 
+/// The instant that a request asks for, if it lies between the second of January 1970 and the latest.
+#[tactic(auto, unfolding(crate::specs::SameDays::is_near))]
+fn asked_instant(request: &Request<'_>, latest: u64) -> Option<u64>
+    requires { latest ≤ last_instant }
+    ensures some { IfSome result (λ now. (asked request.now ≡ at (name_of (asked request.now)) (pos now)) × (100000000000000 ≤ now) × (now < latest)) }
+    ensures told { is_some result ≡ is_near latest (asked request.now) }
+{
+    match request {
+        Request::At(_, nanoseconds) => near_instant(*nanoseconds, latest),
+        Request::Local(_, _) => None,
+    }
+}
+
 /// An instant, if it lies between the second of January 1970 and the latest.
 fn near_instant(nanoseconds: i128, latest: u64) -> Option<u64>
-    requires { latest ≤ 7000000000000000000 }
-    ensures { IfSome result (λ now. (nanoseconds ≡ pos now) × (100000000000000 ≤ now) × (now < latest)) }
+    requires { latest ≤ last_instant }
+    ensures some { IfSome result (λ now. (nanoseconds ≡ pos now) × (100000000000000 ≤ now) × (now < latest)) }
+    ensures told { is_some result ≡ (int_le (pos 100000000000000) nanoseconds && int_lt nanoseconds (pos latest)) }
 {
     if nanoseconds < i128::from(LAST_NUMBERS) || nanoseconds >= i128::from(latest) {
         None
@@ -157,44 +177,35 @@ struct Around {
 }
 
 impl Around {
-    /// Those around an instant in a stretch, if it lies there.
-    fn of(stretch: &Stretch, now: u64) -> Option<Around>
+    /// Those around an instant in a stretch that holds its second.
+    fn of(stretch: &Stretch, now: u64) -> Around
         requires late { 100000000000000 ≤ now }
-        requires early { now ≤ 7000000000000000000 }
-        ensures { IfSome result (λ around. IsAround stretch.now now around.from around.until around.begins) }
+        requires early { now ≤ last_instant }
+        requires begun { stretch.now.from ≤ℤ pos (now / 1000000000) }
+        requires lasts { pos (now / 1000000000) <ℤ stretch.now.until }
+        requires offset { IsOffset stretch.now.offset }
+        ensures { IsAround stretch.now now result.from result.until result.begins }
     {
         let second = now / NANOS_PER_SECOND;
-        if !holds(stretch, second) {
-            return None;
-        }
-        let midnight = now - local_nanos(now, stretch.offset)? % NANOS_PER_DAY;
+        let midnight = now - local_nanos(now, stretch.offset) % NANOS_PER_DAY;
         let from = first_nanos(stretch.from, second).max(midnight);
         let until = past_nanos(stretch.until, second).min(midnight + NANOS_PER_DAY);
-        Some(Around {
+        Around {
             from,
             until,
             begins: from - midnight,
-        })
+        }
     }
 }
 
-/// The local time of an instant, in nanoseconds from the local 1970-01-01 00:00:00, if it isn't before that.
-fn local_nanos(now: u64, offset: i32) -> Option<u64>
-    requires { now ≤ 7000000000000000000 }
-    ensures { IfSome result (λ local. pos local ≡ local_at (pos now) offset) }
+/// The local time of an instant, in nanoseconds from the local 1970-01-01 00:00:00, which it isn't before.
+fn local_nanos(now: u64, offset: i32) -> u64
+    requires late { 100000000000000 ≤ now }
+    requires early { now ≤ last_instant }
+    requires offset { IsOffset offset }
+    ensures { pos result ≡ local_at (pos now) offset }
 {
-    let local = now as i64 + i64::from(offset) * 1_000_000_000;
-    if local < 0 { None } else { Some(local as u64) }
-}
-
-/// Whether a second lies in a stretch.
-fn holds(stretch: &Stretch, second: u64) -> bool
-    requires { second ≤ 7000000000 }
-    ensures begun { IsTrue result → stretch.now.from ≤ℤ pos second }
-    ensures lasts { IsTrue result → pos second <ℤ stretch.now.until }
-{
-    let second = second as i64;
-    stretch.from <= second && second < stretch.until
+    (now as i64 + i64::from(offset) * 1_000_000_000) as u64
 }
 
 /// The first nanosecond of a second up to another, or that of 1970.

@@ -22,15 +22,15 @@ is_below t latest early = by_test (int_lt t latest) refl
     by_test true e = refl
     by_test false e = absurd (omega (arith, ints, lt_from_fail t latest e, early))
 
-pub answered_as : (table : Table) (line answer : List ℕ) → IsAnswered (found_in_table to_2099 table) 4102444800000000000 line answer
+pub answered_as : (table : Table) (line answer : List ℕ) → IsAnswered (found_in_table to_2099 table) year_2100 line answer
     → plain_answer table line ≡ Ok answer
 answered_as table line answer is = by_request (request_of line) refl is.early
   where
-    by_request : (o : Option Request) → request_of line ≡ o → IsBefore 4102444800000000000 o → plain_answer table line ≡ Ok answer
+    by_request : (o : Option Request) → request_of line ≡ o → IsBefore year_2100 o → plain_answer table line ≡ Ok answer
     by_request None e early = absurd early
     by_request (Some (local name time)) e early = absurd early
     by_request (Some (at name instant)) e early =
         subst (λ r. Matches r (answer_line (found_in_table to_2099 table) line) (plain_answer table line)) (is.accepted 1)
         (subst (λ b. let names = found_in_table (cond b to_2099 for_ever) table in
         Matches (request_refusal names 1 line) (answer_line names line) (plain_answer table line))
-        (is_below instant year_2100 early) (as_zone_answers table line (at name instant) e)) ∙ ap Ok is.line
+        (is_below instant (pos year_2100) early) (as_zone_answers table line (at name instant) e)) ∙ ap Ok is.line

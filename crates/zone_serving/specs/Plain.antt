@@ -9,13 +9,13 @@ use Rattle.zone_serving.specs.{Streams.{is_fault, response_of}, Views.{range_wor
 use Rattle.zone_table.specs.declared.table.Table.{Table}
 
 -- 2100-01-01 00:00:00, in nanoseconds
-abbrev pub year_2100 : ℤ
-year_2100 = pos 4102444800000000000
+abbrev pub year_2100 : ℕ
+year_2100 = 4102444800000000000
 
 -- the instant by UTC, or the local time, lies before that
 abbrev pub is_to_2099 : Request → Bool
-is_to_2099 (at name instant) = int_lt instant year_2100
-is_to_2099 (local name time) = int_lt time year_2100
+is_to_2099 (at name instant) = int_lt instant (pos year_2100)
+is_to_2099 (local name time) = int_lt time (pos year_2100)
 
 abbrev pub reading_for : Request → Reading
 reading_for request = if is_to_2099 request then to_2099 else for_ever

@@ -19,18 +19,17 @@ use zone_ever::EverZone;
 use zone_pieces::Responder;
 
 /// 2100-01-01 00:00:00, in nanoseconds.
-const YEAR_2100: i128 = 4_102_444_800_000_000_000;
-
-/// The same, as the latest of requests that are answered by another.
-const YEAR_2100_NANOS: u64 = 4_102_444_800_000_000_000;
+const YEAR_2100: u64 = 4_102_444_800_000_000_000;
 
 /// Whether the instant by UTC, or the local time, lies before that.
 fn is_to_2099(request: &Request<'_>) -> bool
     ensures { result ≡ is_to_2099 (asked request.now) }
 {
     match request {
-        Request::At(_, nanoseconds) => *nanoseconds < YEAR_2100,
-        Request::Local(_, local) => local.assume_utc().unix_timestamp_nanos() < YEAR_2100,
+        Request::At(_, nanoseconds) => *nanoseconds < i128::from(YEAR_2100),
+        Request::Local(_, local) => {
+            local.assume_utc().unix_timestamp_nanos() < i128::from(YEAR_2100)
+        }
     }
 }
 
@@ -88,10 +87,11 @@ fn show<Z: OpenedZone>(
     line: &Line<'_>,
     reply: &mut Reply,
 ) -> Result<(), Refusal>
-    requires { IsSpelled (asked line.now.spelled.now.request) line.now.spelled.now.value.now }
+    requires spelled { IsSpelled (asked line.now.spelled.now.request) line.now.spelled.now.value.now }
+    requires asks { Asks request_of line.now.text.now (asked line.now.spelled.now.request) }
     ensures answer { IsPut (shown_answer (asked line.now.spelled.now.request) (Z.total_at zone.now)) reply.new.text.items result }
-    ensures day { OnOk result ((names : List ℕ → Found) → Asks request_of line.now.text.now (asked line.now.spelled.now.request)
-        → names (name_of (asked line.now.spelled.now.request)) ≡ Ok (Z.total_at zone.now) → IsDayOf names line.now.text.now reply.new.day) }
+    ensures day { OnOk result ((names : List ℕ → Found) → names (name_of (asked line.now.spelled.now.request)) ≡ Ok (Z.total_at zone.now)
+        → IsDayOf names line.now.text.now reply.new.day) }
     ensures kept { OnErr result (reply.new.day ≡ reply.old.day) }
 {
     let request = &line.spelled.request;
@@ -100,7 +100,7 @@ fn show<Z: OpenedZone>(
         Ok(true) => {
             reply.day = None;
             if line.is_alike {
-                reply.day = SameDay::of(zone, line.text, request, &reply.text, YEAR_2100_NANOS);
+                reply.day = SameDay::of(zone, line.text, request, &reply.text, YEAR_2100);
             }
             Ok(())
         }
@@ -155,7 +155,7 @@ impl<'s> PlainStream<'s> {
     ghost use Rattle.sefunjaro.specs.Sources.{table_in};
     ghost use Rattle.zone_answers.specs.{Asked.{asked}, AskedLaws.{Asks}, Found.{found_in_table, to_2099}, Requests.{IsSpelled, request_of}, SameDays.{IsAdded}};
     ghost use Rattle.zone_ever.specs.Readings.{for_ever};
-    ghost use Rattle.zone_serving.specs.{Days.{IsDayOf}, Plain.{asked_answer, plain_answer, plain_replies, read_answer}, Told.{IsPut}};
+    ghost use Rattle.zone_serving.specs.{Days.{IsDayOf}, Plain.{asked_answer, plain_answer, plain_replies, read_answer, year_2100}, Told.{IsPut}};
 
     /// What answers over that source. It takes no memory.
     pub(crate) fn new(alloc: Global, source: &'s OpenSource) -> PlainStream<'s>
@@ -258,7 +258,7 @@ impl<'s> PlainStream<'s> {
 
     /// Adds the answer to a line to the output, if it asks what differs from the one before in the time of a day alone.
     fn answer_again(&self, line: &[u8], output: &mut Vec<u8>) -> Result<bool, AllocError>
-        ensures answer { IfOk result (λ has. IsTrue has → IsAdded (found_in_table to_2099 (table_in self.now.source.now)) 4102444800000000000 line.now output.old.items output.new.items) }
+        ensures answer { IfOk result (λ has. IsTrue has → IsAdded (found_in_table to_2099 (table_in self.now.source.now)) year_2100 line.now output.old.items output.new.items) }
         ensures none { IfOk result (λ has. has ≡ false → output.new.items ≡ output.old.items) }
     {
         match &self.reply.day {

@@ -1,12 +1,13 @@
-use Rattle.std.proofs.{Common.{◌≤ℤ◌, SFits, rules, w32, w64, subst}, lemmas.Int.{to_z-of_z}}
+use Rattle.std.proofs.{Common.{◌≤ℤ◌, ◌<ℤ◌, SFits, rules, w32, w64, sym, subst, arith}, lemmas.Int.{to_z-of_z}}
+use Rattle.basics.specs.SignedLaws.{signed}
 use Rattle.zone_spans.specs.Schedules.{total_at}
 use Rattle.tz_ever.{specs.EverShown.{ever_seen}, proofs.StretchLemmas.{first_is}}
 use Rattle.tz_ever.proofs.stretch.first_stretch.Goals as goal
 use Rattle.tz_lookup.specs.{CompactShown.{seen}, Stretches.{IsStretch}}
 use Rattle.tz_zone.specs.{Sets.{schedule_of}, declared.set.FixedTimespanSet.{FixedTimespanSet}}
 
-pub returns : goal.returns
-returns c =
+pub returns-clause-is : goal.returns-clause-is
+returns-clause-is c =
     let found = c.stretch_of-found.result in
     let from : SFits w64 found.from = search rules in
     let end : SFits w64 found.until = search rules in
@@ -14,6 +15,15 @@ returns c =
     let offset : SFits w32 found.offset = search rules in
     first_is (ever_seen c.args.ever.now) c.args.second c.to_seam-until.result found _ c.requires
     (subst (λ (s : FixedTimespanSet). IsStretch (total_at (schedule_of s)) c.args.second found) c.compact.ensures.seen
-    (subst (λ t. IsStretch (total_at (schedule_of (seen c.compact.result.now))) t found) (to_z-of_z w64 _ c.ranges.second) c.stretch_of-found.ensures))
+    (subst (λ t. IsStretch (total_at (schedule_of (seen c.compact.result.now))) t found) (to_z-of_z w64 _ c.ranges.second) c.stretch_of-found.ensures.is))
     c.to_seam-until.ensures.seam (subst (λ t. c.to_seam-until.result ≤ℤ t) (to_z-of_z w64 _ end) c.to_seam-until.ensures.second)
     (to_z-of_z w64 _ from) (to_z-of_z w64 _ until) (to_z-of_z w32 _ offset)
+
+pub returns-clause-lasts : goal.returns-clause-lasts
+returns-clause-lasts c =
+    let end : SFits w64 c.stretch_of-found.result.until = search rules in
+    let until : SFits w64 c.to_seam-until.result = search rules in
+    let found = subst (λ t. t <ℤ c.stretch_of-found.result.until) (to_z-of_z w64 _ c.ranges.second)
+    (c.stretch_of-found.ensures.lasts (omega (arith, signed, c.requires, to_z-of_z w64 _ c.ranges.second))) in
+    subst (λ t. c.args.second <ℤ t) (sym (to_z-of_z w64 _ until)) (c.to_seam-until.ensures.greatest c.args.second c.requires
+    (subst (λ t. c.args.second <ℤ t) (sym (to_z-of_z w64 _ end)) found))

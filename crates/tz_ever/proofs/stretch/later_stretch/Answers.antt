@@ -1,13 +1,13 @@
-use Rattle.std.proofs.{Common.{◌≡◌, ◌∙◌, ◌*◌, pos, ◌+ℤ◌, ◌-ℤ◌, ◌≤ℤ◌, SFits, rules, w32, w64, sym, ap, subst, arith}, lemmas.Int.{to_z-of_z}}
+use Rattle.std.proofs.{Common.{◌≡◌, ◌∙◌, ◌*◌, pos, ◌+ℤ◌, ◌-ℤ◌, ◌≤ℤ◌, ◌<ℤ◌, SFits, rules, w32, w64, sym, ap, subst, arith}, lemmas.Int.{to_z-of_z}}
 use Rattle.basics.specs.SignedLaws.{signed}
 use Rattle.zone_spans.specs.Schedules.{total_at}
-use Rattle.tz_ever.{specs.{EverShown.{ever_seen}, Unrolled.{seam_second}}, proofs.StretchLemmas.{later_is}}
+use Rattle.tz_ever.{specs.{EverShown.{ever_seen}, Unrolled.{next_seam_second, seam_second}}, proofs.StretchLemmas.{later_is}}
 use Rattle.tz_ever.proofs.stretch.later_stretch.Goals as goal
 use Rattle.tz_lookup.specs.{CompactShown.{seen}, Stretches.{IsStretch}}
 use Rattle.tz_zone.specs.{Sets.{schedule_of}, declared.set.FixedTimespanSet.{FixedTimespanSet}}
 
-pub returns : goal.returns
-returns c =
+pub returns-clause-is : goal.returns-clause-is
+returns-clause-is c =
     let set = ever_seen c.args.ever.now in
     let k = c.args.cycles in
     let found = c.stretch_of-found.result in
@@ -24,7 +24,7 @@ returns c =
     c.earlier.ensures ∙ ap (λ s. s -ℤ pos (k * 12622780800)) (to_z-of_z w64 _ c.ranges.second) in
     let low : seam_second ≤ℤ v = omega (arith, signed, v_is, c.requires.begun) in
     let is = subst (λ (s : FixedTimespanSet). IsStretch (total_at (schedule_of s)) v found) c.compact.ensures.seen
-    (subst (λ t. IsStretch (total_at (schedule_of (seen c.compact.result.now))) t found) (to_z-of_z w64 _ v_fits) c.stretch_of-found.ensures) in
+    (subst (λ t. IsStretch (total_at (schedule_of (seen c.compact.result.now))) t found) (to_z-of_z w64 _ v_fits) c.stretch_of-found.ensures.is) in
     later_is set c.args.second v c.from_seam.result c.to_seam.result k found _ (omega (arith, signed, v_is)) low
     (omega (arith, signed, v_is, c.requires.lasts)) is c.from_seam.ensures.seam
     (subst (λ t. t ≤ℤ c.from_seam.result) (to_z-of_z w64 _ start) c.from_seam.ensures.second)
@@ -45,5 +45,21 @@ later-from-requires-clause-second c =
     c.earlier.ensures ∙ ap (λ s. s -ℤ pos (k * 12622780800)) (to_z-of_z w64 _ c.ranges.second) in
     let least = c.from_seam.ensures.least v (omega (arith, signed, v_is, c.requires.begun))
     (subst (λ t. t ≤ℤ v) (sym (to_z-of_z w64 _ start))
-    (subst (λ t. c.stretch_of-found.result.from ≤ℤ t) (to_z-of_z w64 _ v_fits) c.stretch_of-found.ensures.begun)) in
+    (subst (λ t. c.stretch_of-found.result.from ≤ℤ t) (to_z-of_z w64 _ v_fits) c.stretch_of-found.ensures.is.begun)) in
     omega (arith, signed, v_is, c.requires.lasts, least, to_z-of_z w64 _ from)
+
+pub returns-clause-lasts : goal.returns-clause-lasts
+returns-clause-lasts c =
+    let k = c.args.cycles in
+    let v = c.earlier.result in
+    let v_fits : SFits w64 v = search rules in
+    let end : SFits w64 c.stretch_of-found.result.until = search rules in
+    let until : SFits w64 c.to_seam.result = search rules in
+    let until_later : SFits w64 c.later-until.result = search rules in
+    let v_is : v ≡ c.args.second -ℤ pos (k * 12622780800) =
+    c.earlier.ensures ∙ ap (λ s. s -ℤ pos (k * 12622780800)) (to_z-of_z w64 _ c.ranges.second) in
+    let inside : v <ℤ next_seam_second = omega (arith, signed, v_is, c.requires.lasts) in
+    let found = subst (λ t. t <ℤ c.stretch_of-found.result.until) (to_z-of_z w64 _ v_fits)
+    (c.stretch_of-found.ensures.lasts (omega (arith, signed, inside, to_z-of_z w64 _ v_fits))) in
+    let seam = c.to_seam.ensures.greatest v inside (subst (λ t. v <ℤ t) (sym (to_z-of_z w64 _ end)) found) in
+    omega (arith, signed, v_is, seam, to_z-of_z w64 _ until, to_z-of_z w64 _ until_later, c.later-until.ensures)

@@ -1,10 +1,10 @@
-use Rattle.std.proofs.{Common.{◌≤ℤ◌, ◌<ℤ◌, SFits, rules, sym, ◌∙◌, subst, w32, w64}, lemmas.Int.{to_z-of_z}}
+use Rattle.std.proofs.{Common.{◌≤ℤ◌, ◌<ℤ◌, SFits, rules, sym, ◌∙◌, subst, w32, w64, arith}, lemmas.Int.{ints, to_z-of_z}}
 use Rattle.tz_zone.specs.{Sets.{schedule_of, shifts_of}, Spans.{IsCut}}
 use Rattle.tz_lookup.{specs.CompactShown.{seen}, proofs.StretchLemmas.{at_second}}
 use Rattle.tz_lookup.proofs.stretch.stretch_under.Goals as goal
 
-pub returns : goal.returns
-returns g c =
+pub returns-clause-is : goal.returns-clause-is
+returns-clause-is g c =
     let zone = schedule_of (seen c.args.set.now) in
     let span = c.span_of-span.result in
     let same = to_z-of_z w64 c.args.second c.ranges.second in
@@ -24,3 +24,10 @@ returns g c =
         after = c.span_end-until.ensures.after u (subst (λ t. u <ℤ t) until high);
       }) ∙ total;
     }
+
+pub returns-clause-lasts : goal.returns-clause-lasts
+returns-clause-lasts g c = λ early.
+    let same = to_z-of_z w64 c.args.second c.ranges.second in
+    let until_fits : SFits w64 c.span_end-until.result = search rules in
+    subst (λ t. c.args.second <ℤ t) (sym (to_z-of_z w64 _ until_fits))
+    (subst (λ t. t <ℤ c.span_end-until.result) same (c.span_end-until.ensures.lasts (omega (arith, ints, same, early))))
