@@ -11,16 +11,33 @@ PAIRS = ((1, 1), (1, 2), (2, 1), (4, 2), (8, 1), (3, 3), (1, 12), (1, 40), (10, 
 
 
 def measured(runner, program, text):
-    """The least milliseconds of the processor in three runs (in one, where it is long), the most memory in MB, and the status."""
+    """The least milliseconds of the processor in three runs (in one, where it is long), the most memory in MB, and the status; None where
+    a run was ended past its time, before it could count."""
     path, least = runner.keep(text), None
     for _ in range(3):
         run = runner.run(program.name, program.words_for(path, "A"), text, told={})
+        if not run.counts:
+            least = None
+            break
         *_, memory, taken = run.counts
         least = taken if least is None else min(least, taken)
         if taken > 3000:
             break
     runner.drop(path)
-    return max(least, 1), memory / 1e3, run.status
+    return None if least is None else (max(least, 1), memory / 1e3, run.status)
+
+
+def cells(measure):
+    """What is shown of a measure: the time, with the status that isn't 0, and the memory."""
+    if measure is None:
+        return "past its time", ""
+    taken, memory, status = measure
+    return f"{taken} ms" if status == 0 else f"{taken} ms, status {status}", f"{memory:.0f}"
+
+
+def ratio(small, large, place):
+    """How many times a number of one measure is that of another, where both are known."""
+    return "" if None in (small, large) else f"{large[place] / small[place]:.0f}"
 
 
 def show(runner, programs):
@@ -28,15 +45,13 @@ def show(runner, programs):
     program = next(program for program in programs if program.name == "zone_list")
     print("| Text | 1.6 MiB | 16 MiB | ratio | memory, MB | ratio |\n|---|---|---|---|---|---|")
     for name, (make, _) in SHAPES.items():
-        (time_1, memory_1, _), (time_10, memory_10, status) = (measured(runner, program, make(size)) for size in (SMALL, LIMIT))
-        ended = "" if status == 0 else f", status {status}"
-        print(f"| {name} | {time_1} ms | {time_10} ms{ended} | {time_10 / time_1:.0f} "
-              f"| {memory_1:.0f}, {memory_10:.0f} | {memory_10 / memory_1:.0f} |", flush=True)
+        small, large = (measured(runner, program, make(size)) for size in (SMALL, LIMIT))
+        (time_1, memory_1), (time_10, memory_10) = cells(small), cells(large)
+        print(f"| {name} | {time_1} | {time_10} | {ratio(small, large, 0)} | {memory_1}, {memory_10} | {ratio(small, large, 1)} |", flush=True)
     print("\n| Rulesets, offsets | rules, lines | time | memory, MB |\n|---|---|---|---|")
     for rulesets, offsets in PAIRS:
         for size in MANY_LINES:
             text = rules_and_lines(size, rulesets, offsets)
             rules, lines = text.count(b"Rule"), text.count(b"%sB")
-            taken, memory, status = measured(runner, program, text)
-            ended = "" if status == 0 else f", status {status}"
-            print(f"| {rulesets}, {offsets} | {rules}, {lines} | {taken} ms{ended} | {memory:.0f} |", flush=True)
+            taken, memory = cells(measured(runner, program, text))
+            print(f"| {rulesets}, {offsets} | {rules}, {lines} | {taken} | {memory} |", flush=True)
