@@ -12,7 +12,8 @@ use Rattle.zone_spans.specs.{Firings.{earliest, fired, year_firings, firings_of_
 use Rattle.zone_spans.specs.{declared.fault.SpanFault.{SpanFault}, declared.span.FixedTimespan.{FixedTimespan}, GoesOn.{GoesOn, dont_fall, front_of, goes_on, is_in_order, last_goes_on, last_of, turns}, Later.{firings_from, start_after}}
 use Rattle.zone_spans.specs.Settled.{is_lasting, is_settled}
 use Rattle.zone_spans.specs.declared.span.FixedTimespanSet as spans
-use Rattle.tz_ever.specs.{InForce.{span_by}, Ever.{ever_span, ever_total}, ForEver.{IsForEver, ever_years}, Seam.{brought_back, cycles_past, next_seam, seam}, Unrolled.{again, entries_before, entries_from, unrolled_entries}}
+use Rattle.tz_ever.specs.{InForce.{span_by}, Ever.{ever_span, ever_total}, ForEver.{IsForEver, ever_years}, Seam.{brought_back, cycles_past, next_seam, seam}, Stretches.{ever_begin, ever_end}, Unrolled.{again, entries_before, entries_from, unrolled_entries}}
+use Rattle.tz_lookup.specs.Stretches.{stretch_begin, stretch_end}
 use Rattle.tz_zone.specs.declared.set.FixedTimespanSet.{FixedTimespanSet}
 
 -- ---- the seam and its cycles: 2501-12-31 24:00 is 2102-01-01, and so is that of 2901; before it nothing moves
@@ -40,6 +41,22 @@ first_times = refl
 last_times : drop 41 unrolled_times ≡ pos 256621132800 ∷ pos 269243913599 ∷ []
 unfolding unrolled_entries entries_before entries_from again
 last_times = refl
+
+-- ---- seconds around one: the first cycle goes on from the years before it, no later one does, and none reaches past its end
+abbrev changed : FixedTimespanSet
+changed = record { name = []; first = (change (pos 0)).1; others = change (pos 4165516799) ∷ change (pos 4197052800) ∷ [] }
+
+-- as the cycle begins, a year later, as the next one begins, and a year after that
+abbrev moments : List ℤ
+moments = pos 4165516800 ∷ pos 4197052800 ∷ pos 16788297600 ∷ pos 16819833600 ∷ []
+
+stretches_begin : map (ever_begin changed) moments ≡ pos 4165516799 ∷ pos 4197052800 ∷ pos 16788297600 ∷ pos 16819833600 ∷ []
+unfolding ever_begin stretch_begin cycles_past
+stretches_begin = refl
+
+stretches_end : map (ever_end changed) moments ≡ pos 4197052800 ∷ pos 16788297600 ∷ pos 16819833600 ∷ pos 29411078400 ∷ []
+unfolding ever_end stretch_end cycles_past
+stretches_end = refl
 
 -- `Rule US 2007 max - Mar Sun>=8 2:00 1:00 D` and `Rule US 2007 max - Nov Sun>=1 2:00 0 S`
 abbrev sunday : Month → ℤ → ℤ → List ℕ → RuleInfo

@@ -1,11 +1,12 @@
--- The total of a zone that goes on for ever throughout seconds of one cycle.
-use Rattle.std.proofs.Common.{◌≡◌, ℕ, ◌*◌, ℤ, pos, ◌+ℤ◌, ◌-ℤ◌, ◌≤ℤ◌, ◌<ℤ◌, sym, ap, ◌∙◌, arith}
+-- The total of a zone that goes on for ever throughout seconds of one cycle, and where they begin and end.
+use Rattle.std.proofs.Common.{◌≡◌, ℕ, zero, suc, ◌<◌, ◌*◌, ℤ, pos, ◌+ℤ◌, ◌-ℤ◌, ◌≤ℤ◌, ◌<ℤ◌, sym, ap, ◌∙◌, arith}
+use Rattle.std.specs.Int.{int_max, int_min}
 use Rattle.basics.specs.{ComparisonLaws.{lt_pass}, SignedLaws.{signed}}
 use Rattle.civil_base.specs.Instants.{nanos_of}
 use Rattle.zone_spans.specs.Schedules.{total_at}
 use Rattle.tz_zone.specs.{Sets.{schedule_of}, declared.set.FixedTimespanSet.{FixedTimespanSet}}
-use Rattle.tz_lookup.specs.{Stretches.{IsStretch}, declared.stretch.Stretch.{Stretch}}
-use Rattle.tz_ever.specs.{Ever.{ever_total}, Seam.{next_seam}, SeamLaws.{back_by, back_is}, Unrolled.{next_seam_second, seam_second}}
+use Rattle.tz_lookup.specs.{Stretches.{IsStretch, stretch_begin, stretch_end}, declared.stretch.Stretch.{Stretch}}
+use Rattle.tz_ever.specs.{Ever.{ever_total}, Seam.{cycles_past, next_seam}, SeamLaws.{back_by, back_is, one_number}, Stretches.{begin_past, end_past, ever_begin, ever_end}, Unrolled.{next_seam_second, seam_second}}
 
 pub before_seam : (set : FixedTimespanSet) (u : ℤ) → u <ℤ next_seam_second → ever_total set (nanos_of u) ≡ total_at (schedule_of set) (nanos_of u)
 unfolding ever_total
@@ -45,3 +46,56 @@ later_is set second v from until k found result v_is low high is seam start leas
       after_seam set u w k (omega (arith, signed)) (omega (arith, signed, after, from_is, seam)) (omega (arith, signed, before, until_is, next))
       ∙ is.throughout w (omega (arith, signed, after, from_is, start)) (omega (arith, signed, before, until_is, end)) ∙ sym offset_is;
 }
+
+-- the cycles past the seam, by their bounds in seconds
+none_past : (second : ℤ) → second <ℤ next_seam_second → cycles_past (nanos_of second) ≡ 0
+none_past second early = one_number (nanos_of second) 0 (record {
+  begun = λ p. absurd (omega arith);
+  not_over = omega (arith, signed, early);
+})
+
+some_past : (second v : ℤ) (k : ℕ) → second ≡ v +ℤ pos (k * 12622780800) → seam_second ≤ℤ v → v <ℤ next_seam_second → cycles_past (nanos_of second) ≡ k
+some_past second v k is low high = one_number (nanos_of second) k (record {
+  begun = λ _. omega (arith, signed, is, low);
+  not_over = omega (arith, signed, is, high);
+})
+
+at_none : (x : ℤ) → x -ℤ pos (0 * 12622780800) ≡ x
+at_none x = omega (arith, signed)
+
+none_later : (x : ℤ) → x ≡ x +ℤ pos (0 * 12622780800)
+none_later x = omega (arith, signed)
+
+pub first_begin : (set : FixedTimespanSet) (second begin : ℤ) → second <ℤ next_seam_second → begin ≡ stretch_begin (schedule_of set) second
+    → begin ≡ ever_begin set second
+unfolding ever_begin
+first_begin set second begin early is =
+    let zone = schedule_of set in
+    is ∙ ap (stretch_begin zone) (sym (at_none second)) ∙ none_later _ ∙ sym (ap (λ k. begin_past zone k second) (none_past second early))
+
+pub first_end : (set : FixedTimespanSet) (second end : ℤ) → second <ℤ next_seam_second
+    → end ≡ int_min (stretch_end (schedule_of set) second) next_seam_second → end ≡ ever_end set second
+unfolding ever_end
+first_end set second end early is =
+    let zone = schedule_of set in
+    is ∙ ap (λ s. int_min (stretch_end zone s) next_seam_second) (sym (at_none second)) ∙ none_later _
+    ∙ sym (ap (λ k. end_past zone k second) (none_past second early))
+
+pub later_begin : (set : FixedTimespanSet) (second v begin : ℤ) (k : ℕ) → 0 < k → second ≡ v +ℤ pos (k * 12622780800) → seam_second ≤ℤ v
+    → v <ℤ next_seam_second → begin ≡ int_max (stretch_begin (schedule_of set) v) seam_second +ℤ pos (k * 12622780800) → begin ≡ ever_begin set second
+unfolding ever_begin
+later_begin set second v begin zero some is low high begins = absurd (omega (arith, some))
+later_begin set second v begin (suc k) some is low high begins =
+    let zone = schedule_of set in
+    let back : v ≡ second -ℤ pos (suc k * 12622780800) = omega (arith, signed, is) in
+    begins ∙ ap (λ s. int_max (stretch_begin zone s) seam_second +ℤ pos (suc k * 12622780800)) back
+    ∙ sym (ap (λ k. begin_past zone k second) (some_past second v (suc k) is low high))
+
+pub later_end : (set : FixedTimespanSet) (second v end : ℤ) (k : ℕ) → second ≡ v +ℤ pos (k * 12622780800) → seam_second ≤ℤ v → v <ℤ next_seam_second
+    → end ≡ int_min (stretch_end (schedule_of set) v) next_seam_second +ℤ pos (k * 12622780800) → end ≡ ever_end set second
+unfolding ever_end
+later_end set second v end k is low high ends =
+    let zone = schedule_of set in
+    let back : v ≡ second -ℤ pos (k * 12622780800) = omega (arith, signed, is) in
+    ends ∙ ap (λ s. int_min (stretch_end zone s) next_seam_second +ℤ pos (k * 12622780800)) back
+    ∙ sym (ap (λ k. end_past zone k second) (some_past second v k is low high))

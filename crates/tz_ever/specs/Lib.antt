@@ -7,6 +7,7 @@ pub mod ForEver
 pub mod EverShown
 pub mod EverZones
 pub mod Unrolled
+pub mod Stretches
 pub mod TablesShown
 pub mod Opens
 -- Laws: what a caller may use.

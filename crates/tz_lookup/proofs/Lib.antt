@@ -10,3 +10,4 @@ pub mod DatabaseLaws
 pub mod KindLaws
 pub mod PartLaws
 pub mod StretchLemmas
+mod StretchRows

@@ -2,7 +2,7 @@
 ghost use Rattle.std.specs.Prelude.{◌≡◌, ◌<◌, ◌≤◌, ◌≤ℤ◌, ◌<ℤ◌, length, ℕ, ℤ};
 ghost use Rattle.zone_spans.specs.Schedules.{total_at};
 ghost use Rattle.tz_zone.specs.{Sets.{schedule_of, shifts_of, IsAccepted}, Spans.{shift_at, IsCut}};
-ghost use Rattle.tz_lookup.specs.{CompactShown.{seen}, Stretches.{begin_second, least_second, IsStretch}};
+ghost use Rattle.tz_lookup.specs.{CompactShown.{seen}, Stretches.{stretch_begin, begin_second, stretch_end, least_second, IsStretch}};
 
 use crate::compact_set::CompactSet;
 use std::marker::Brand;
@@ -20,10 +20,12 @@ pub struct Stretch {
     pub offset: i32,
 }
 
-/// The total offset of a set at a second, in seconds from 1970-01-01 00:00:00 UTC, and the seconds around it in which no entry lies. It is
-/// one of them where there is a later one.
+/// The total offset of a set at a second, in seconds from 1970-01-01 00:00:00 UTC, and the seconds around it from the last entry up to it,
+/// or from `i64::MIN` on, up to the next one, or to `i64::MAX`. It is one of them where there is a later one.
 pub fn stretch_of(set: &CompactSet, second: i64) -> Stretch
     ensures is { IsStretch (total_at (schedule_of (seen set.now))) second result }
+    ensures from { result.from ≡ stretch_begin (schedule_of (seen set.now)) second }
+    ensures until { result.until ≡ stretch_end (schedule_of (seen set.now)) second }
     ensures lasts { second <ℤ i64.MAX → second <ℤ result.until }
 {
     stretch_under::<Brand>(set, second, Blank::new(1))
@@ -34,6 +36,8 @@ fn stretch_under<L: Ledger>(set: &CompactSet, second: i64, blank: Blank) -> Stre
     requires parts { blank.parts ≡ L.parts }
     requires some { 0 < L.parts }
     ensures is { IsStretch (total_at (schedule_of (seen set.now))) second result }
+    ensures from { result.from ≡ stretch_begin (schedule_of (seen set.now)) second }
+    ensures until { result.until ≡ stretch_end (schedule_of (seen set.now)) second }
     ensures lasts { second <ℤ i64.MAX → second <ℤ result.until }
 {
     let mut steps: Steps<L> = Steps::new(blank);

@@ -1,12 +1,12 @@
 -- What answers requests for instants of one local day at one offset.
-use Rattle.std.proofs.{Common.{◌≡◌, ◌≢◌, ℕ, Bool, ◌+◌, ◌-◌, ◌^◌, ◌%◌, ◌<◌, ◌≤◌, true, false, cond, List, ◌++◌, get_or, length, take, Some, None, Ok, ℤ, pos, ◌+ℤ◌, ◌≤ℤ◌, ◌<ℤ◌, refl, sym, ap, ◌∙◌, subst, arith}, lemmas.Bool.{and_from, eq-eqb, le-leb, le-ltb, lt-leb, lt-ltb, ne_eqb}, Math.Bool.{and-false}, lemmas.Int.{ints}, lemmas.List.{append-nil, get_or-take, take-append-drop}, lemmas.Str.{IsCharBoundary-from_drop, IsUtf8-append, IsUtf8-from_ascii, IsUtf8-from_is_utf8, IsUtf8-take, is_utf8-from_IsUtf8}, lemmas.Fmt.{IsAscii-from_digits}}
+use Rattle.std.proofs.{Common.{◌≡◌, ◌≢◌, ℕ, Bool, ◌+◌, ◌-◌, ◌^◌, ◌/◌, ◌<◌, ◌≤◌, true, false, cond, max, min, ◌↔◌, IsTrue, List, ◌++◌, get_or, length, take, Some, None, Ok, ℤ, pos, ◌+ℤ◌, ◌≤ℤ◌, ◌<ℤ◌, refl, sym, ap, ◌∙◌, subst, arith}, lemmas.Bool.{and_from, and_parts, eq-eqb, eqb-true, le-leb, leb-true, le-ltb, lt-leb, lt-ltb, ltb-true, ne_eqb}, Math.Bool.{and-false}, lemmas.Int.{ints}, lemmas.List.{append-nil, get_or-take, length-drop, take-append-drop}, lemmas.Int.Digits.{digits_value-lt}, lemmas.Str.{IsCharBoundary-from_drop, IsUtf8-append, IsUtf8-from_ascii, IsUtf8-from_is_utf8, IsUtf8-take, is_utf8-from_IsUtf8}, lemmas.Fmt.{IsAscii-from_digits}}
 use Rattle.std.specs.{Prelude.{◌&&◌, ◌==◌, bytes_eq, nat_le, nat_lt}, Cmp.Lexicographic.{bytes_decides}, Str.{IsUtf8, is_utf8}, Str.Parse.{digits_value}}
 use Rattle.basics.specs.SignedLaws.{signed}
-use Rattle.civil_base.specs.{Instants.{local_at, nanos_of, seconds_of}, Layout.{time_part, zoned_text}, RangeLaws.{offset_least, offset_greatest, years_between}, Ranges.{IsOffset}}
+use Rattle.civil_base.specs.{Clock.{nanos_per_day}, Instants.{local_at, nanos_of, seconds_of}, Layout.{day_part, time_part, zoned_text}, PartLaws.{parts-joined, time_part-inside}, RangeLaws.{offset_least, offset_greatest, years_between}, Ranges.{IsOffset}}
 use Rattle.zone_spans.specs.Schedules.{Schedule, total_at}
 use Rattle.tz_zone.specs.{SecondLaws.{IsSecond, one_second, second_is, total_is}, Spans.{total_from}}
 use Rattle.tz_lookup.specs.{Stretches.{IsKnown}, declared.stretch.Stretch.{Stretch}}
-use Rattle.zone_answers.specs.{AskedLaws.{Asks}, Due.{answer_text, shown_at}, Faults.{has_dates, range}, Found.{Found}, Requests.{at, request_of}, SameDayLaws.{in_seconds}, SameDays.{AreLast, IsAdded, IsAnswered, IsAround, IsBefore, IsSameDay, IsThroughout, are_alike, at_time, front_of, is_of, last_instant, last_of}, declared.same_day.SameDay.{SameDay}}
+use Rattle.zone_answers.specs.{AskedLaws.{Asks}, Due.{answer_text, shown_at}, Faults.{has_dates, range}, Found.{Found}, Requests.{at, request_of}, SameDayLaws.{in_seconds}, SameDays.{AreLast, IsAdded, IsAnswered, IsAround, IsBefore, IsOfDay, IsOnDay, IsSameDay, IsThroughout, are_alike, at_time, ends_in_digits, front_of, is_of, last_instant, last_of, with_last}, declared.same_day.SameDay.{SameDay}}
 use Rattle.zone_answers.proofs.{DayLemmas.{IsSameDate, other_time, same_date}, LastLemmas.{EndsInDigits, IsOther, all_digits, late_digits, other_request}, ReadBackLemmas.{line_back}, RequestLemmas.{digits_from}, RefusalLemmas.{dates_are, line_is}}
 
 -- a request for an instant of a zone that was found, its line, and what is in force there
@@ -88,14 +88,23 @@ throughout zone stretch = in_seconds (total_at zone) stretch (λ t.
     total_is zone t ∙ ap (total_from zone.first zone.shifts) (one_second (nanos_of second) second (seconds_of (nanos_of second)) (at_second second) (second_is (nanos_of second)))
     ∙ sym (total_is zone (nanos_of second)))
 
--- the time of day of a local time from 1970 on
-pub time_of : (x : ℤ) (n : ℕ) → pos n ≡ x → time_part x ≡ n % 86400000000000
-unfolding time_part
-time_of x n is = omega (arith, signed, is)
+pub second_at : (n : ℕ) → pos (n / 1000000000) ≡ seconds_of (pos n)
+unfolding seconds_of
+second_at n = refl
 
--- a request for a late instant ends in digits
-pub ends_in : (text name : List ℕ) (now : ℕ) → Asks request_of text (at name (pos now)) → 10 ^ 14 ≤ now → EndsInDigits text
-ends_in text name now asks late = late_digits text name (pos now) asks.reads (omega (arith, ints, late))
+-- an instant of the local day of another comes from its midnight on, up to the next
+pub on_day : (t o : ℤ) (now : ℕ) → day_part (local_at t o) ≡ day_part (local_at (pos now) o)
+    → (pos now ≤ℤ (t +ℤ pos (time_part (local_at (pos now) o)))) × ((t +ℤ pos (time_part (local_at (pos now) o))) <ℤ (pos now +ℤ pos nanos_per_day))
+on_day t o now same = (
+  omega (arith, signed, parts-joined x, parts-joined y, time_part-inside x, time_part-inside y, same),
+  omega (arith, signed, parts-joined x, parts-joined y, time_part-inside x, time_part-inside y, same),
+)
+  where
+    x : ℤ
+    x = local_at (pos now) o
+
+    y : ℤ
+    y = local_at t o
 
 -- and what stands in front of them is text
 front_text : (text : List ℕ) → is_utf8 text ≡ true → EndsInDigits text → IsUtf8 (front_of text)
@@ -134,6 +143,29 @@ module _ (day : SameDay) (before line : List ℕ) where
   unfolding is_of
   one_of alike digits low high = and_from _ _ (and_from _ _ (and_from _ _ alike digits) (le-leb _ _ low)) (lt-ltb _ _ high)
 
+-- what a line of a day is
+pub record IsOneOf (day : SameDay) (before line : List ℕ) : Type 0 where
+  pub alike : are_alike before line ≡ true
+  pub digits : all_digits (last_of line) ≡ true
+  pub low : day.from ≤ digits_value 10 (last_of line)
+  pub high : digits_value 10 (last_of line) < day.until
+
+pub parts_of : (day : SameDay) (before line : List ℕ) → is_of day before line ≡ true → IsOneOf day before line
+unfolding is_of
+parts_of day before line one = record { alike = two.0; digits = two.1; low = leb-true _ _ three.1; high = ltb-true _ _ four.1 }
+  where
+    number : ℕ
+    number = digits_value 10 (last_of line)
+
+    four : ((are_alike before line && all_digits (last_of line) && nat_le day.from number) ≡ true) × (nat_lt number day.until ≡ true)
+    four = and_parts (are_alike before line && all_digits (last_of line) && nat_le day.from number) (nat_lt number day.until) one
+
+    three : ((are_alike before line && all_digits (last_of line)) ≡ true) × (nat_le day.from number ≡ true)
+    three = and_parts (are_alike before line && all_digits (last_of line)) (nat_le day.from number) four.0
+
+    two : (are_alike before line ≡ true) × (all_digits (last_of line) ≡ true)
+    two = and_parts (are_alike before line) (all_digits (last_of line)) three.0
+
 -- when two lines are alike, and when not
 pub other_length : (one other : List ℕ) → length one ≢ length other → are_alike one other ≡ false
 unfolding are_alike
@@ -162,6 +194,14 @@ module _ (one other : List ℕ) (same : length one ≡ length other) (long : 14 
       by_test false e = refl
       by_test true e = absurd (differ (sym (get_or-take end one (end - 1) 0 (omega (arith, long)))
           ∙ ap (λ t. get_or t (end - 1) 0) ((bytes_decides (take end one) (take end other)).0 e) ∙ get_or-take end other (end - 1) 0 (omega (arith, long))))
+
+pub alike_long : (one other : List ℕ) → are_alike one other ≡ true → 14 < length other
+unfolding are_alike
+alike_long one other alike = omega (arith, eqb-true _ _ two.0, ltb-true _ _ two.1)
+  where
+    two : ((length one == length other) ≡ true) × (nat_lt 14 (length one) ≡ true)
+    two = and_parts (length one == length other) (nat_lt 14 (length one))
+        (and_parts (length one == length other && nat_lt 14 (length one)) (bytes_eq (front_of one) (front_of other)) alike).0
 
 -- a line is alike itself
 pub self_alike : (line : List ℕ) → 14 < length line → are_alike line line ≡ true
@@ -192,3 +232,92 @@ added names latest request line old new is grown = (
   record { accepted = is.accepted; line = refl; back = is.back; early = is.early },
   grown ∙ ap (λ t. old ++ t) (sym is.line),
 )
+
+-- a line ends in digits by its length and its last bytes
+pub ends_by : (line : List ℕ) → 14 < length line → all_digits (last_of line) ≡ true → ends_in_digits line ≡ true
+unfolding ends_in_digits
+ends_by line long digits = and_from _ _ (lt-ltb _ _ long) digits
+
+-- and so does each that asks for a late instant
+pub late_ends : (text name : List ℕ) (now : ℕ) → Asks request_of text (at name (pos now)) → 10 ^ 14 ≤ now → ends_in_digits text ≡ true
+late_ends text name now asks late =
+    let ends = late_digits text name (pos now) asks.reads (omega (arith, ints, late)) in
+    ends_by text ends.long ends.last.digits
+
+pub ends_are : (line : List ℕ) → ends_in_digits line ≡ true → EndsInDigits line
+unfolding ends_in_digits
+ends_are line is = record {
+  long = long;
+  last = record { count = omega (arith, long, length-drop (length line - 14) line); digits = both.1 };
+}
+  where
+    both : (nat_lt 14 (length line) ≡ true) × (all_digits (last_of line) ≡ true)
+    both = and_parts (nat_lt 14 (length line)) (all_digits (last_of line)) is
+
+    long : 14 < length line
+    long = ltb-true _ _ both.0
+
+-- which lines are of the day whose numbers are those of instants from the later of two on, up to the earliest of three
+module _ (begins ends total : ℤ → ℤ) (latest now number base : ℕ) (text : List ℕ) (stretch : Stretch) (from until begin first past : ℕ) (day : SameDay)
+    (throughout : IsThroughout total stretch) (starts : stretch.from ≡ begins (seconds_of (pos now))) (stops : stretch.until ≡ ends (seconds_of (pos now)))
+    (around : IsAround stretch now from until begin) (value : number ≡ digits_value 10 (last_of text)) (based : base + number ≡ now)
+    (later : first ≡ max from base) (sooner : past ≡ min (min until (base + 100000000000000)) latest) (least : day.from ≡ first - base) (most : day.until ≡ past - base)
+    (line : List ℕ) where
+  abbrev v : ℕ
+  v = digits_value 10 (last_of line)
+
+  abbrev t : ℤ
+  t = with_last (pos now) text line
+
+  here : total (pos now) ≡ stretch.offset
+  here = throughout (pos now) (omega (arith, signed, around.first, around.begun)) (omega (arith, signed, around.past, around.lasts))
+
+  is : t ≡ pos (base + v)
+  is = omega (arith, signed, value, based)
+
+  there : from ≤ base + v → base + v < until → base + v < latest → IsOnDay begins ends total latest (pos now) t
+  there low high early = record {
+    begun = subst (λ s. nanos_of s ≤ℤ t) starts (omega (arith, signed, is, around.first, low));
+    lasts = subst (λ s. t <ℤ nanos_of s) stops (omega (arith, signed, is, around.past, high));
+    day = (same_date (local_at (pos now) (total (pos now))) (local_at t (total (pos now))) (begin + (base + v - from))
+        (omega (arith, signed, is, low, around.begun, around.begins ∙ ap (λ o. time_part (local_at (pos now) o) + from) (sym here)))
+        (omega (arith, around.day, low, high))).day;
+    early = omega (arith, signed, is, early);
+  }
+
+  of_day : is_of day text line ≡ true → IsOfDay begins ends total latest (pos now) text line
+  unfolding is_of
+  of_day one = record {
+    alike = all.alike;
+    digits = ends_by line (alike_long text line all.alike) all.digits;
+    there = there (omega (arith, later, least, all.low)) (omega (arith, sooner, most, all.high)) (omega (arith, sooner, most, all.high));
+  }
+    where
+      all : IsOneOf day text line
+      all = parts_of day text line one
+
+  one_by : IsOfDay begins ends total latest (pos now) text line → is_of day text line ≡ true
+  one_by all = one_of day text line all.alike end.last.digits
+      (omega (arith, later, least, low)) (omega (arith, sooner, most, high, few, early))
+    where
+      end : EndsInDigits line
+      end = ends_are line all.digits
+
+      both : (pos from ≤ℤ t) × (t <ℤ pos until)
+      both = around.only t (subst (λ s. nanos_of s ≤ℤ t) (sym starts) all.there.begun) (subst (λ s. t <ℤ nanos_of s) (sym stops) all.there.lasts)
+          (subst (λ o. day_part (local_at t o) ≡ day_part (local_at (pos now) o)) here all.there.day)
+
+      low : from ≤ base + v
+      low = omega (arith, signed, is, both.0)
+
+      high : base + v < until
+      high = omega (arith, signed, is, both.1)
+
+      few : v < 10 ^ 14
+      few = subst (λ n. v < 10 ^ n) end.last.count (digits_value-lt 10 (last_of line) (digits_from (last_of line) end.last.digits))
+
+      early : base + v < latest
+      early = omega (arith, signed, is, all.there.early)
+
+  pub whole : IsTrue (is_of day text line) ↔ IsOfDay begins ends total latest (pos now) text line
+  whole = (of_day, one_by)

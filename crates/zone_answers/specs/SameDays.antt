@@ -1,6 +1,6 @@
 -- Requests for instants of one local day, whose lines differ in the last digits alone: their answers' lines differ in the time of day.
-use Rattle.std.specs.{Prelude.{◌≡◌, ℕ, ◌+◌, ◌-◌, ◌≤◌, ◌<◌, ◌++◌, ◌∷◌, ◌==◌, ◌&&◌, Bool, true, false, ℤ, pos, ◌≤ℤ◌, ◌<ℤ◌, int_le, int_lt, nat_le, nat_lt, All, List, Option, Some, None, length, take, drop}, Char.{is_digit}, List.{list_all}, Str.{bytes_eq}, Str.Parse.{digits_value}}
-use Rattle.civil_base.specs.{Clock.{nanos_per_day}, Instants.{local_at, nanos_of}, Layout.{time_part, time_text}}
+use Rattle.std.specs.{Prelude.{◌≡◌, ℕ, ◌+◌, ◌-◌, ◌≤◌, ◌<◌, ◌++◌, ◌∷◌, ◌==◌, ◌&&◌, Bool, true, false, ℤ, pos, ◌+ℤ◌, ◌-ℤ◌, ◌≤ℤ◌, ◌<ℤ◌, int_le, int_lt, nat_le, nat_lt, All, List, Option, Some, None, length, take, drop}, Char.{is_digit}, List.{list_all}, Str.{bytes_eq}, Str.Parse.{digits_value}}
+use Rattle.civil_base.specs.{Clock.{nanos_per_day}, Instants.{local_at, nanos_of, seconds_of}, Layout.{day_part, time_part, time_text}}
 use Rattle.tz_lookup.specs.declared.stretch.Stretch.{Stretch}
 use Rattle.zone_answers.specs.{Due.{answer_line, shown_for}, Faults.{request_refusal}, Found.{Found}, ReadBack.{IsReadBack}, Requests.{Request, at, local, request_of}, declared.same_day.SameDay.{SameDay}}
 
@@ -58,6 +58,19 @@ is_near latest (local name time) = false
 abbrev pub has_day : ℕ → Request → List ℕ → Bool
 has_day latest request shown = is_near latest request && length shown == 39
 
+-- a line ends in fourteen digits behind another byte
+unfoldable pub ends_in_digits : List ℕ → Bool
+ends_in_digits line = nat_lt 14 (length line) && list_all (λ c. is_digit c 10) (last_of line)
+
+-- the instant that is asked for, or the local time, in nanoseconds
+abbrev pub asked_number : Request → ℤ
+asked_number (at name instant) = instant
+asked_number (local name time) = time
+
+-- what a request asks for with the last digits of another line in place of its own
+abbrev pub with_last : ℤ → List ℕ → List ℕ → ℤ
+with_last now text line = now -ℤ pos (digits_value 10 (last_of text)) +ℤ pos (digits_value 10 (last_of line))
+
 -- a line with another time of day
 abbrev pub at_time : List ℕ → ℕ → List ℕ
 at_time line nanos = take 10 line ++ (32 ∷ time_text nanos) ++ drop 29 line
@@ -73,7 +86,7 @@ pub record IsSameDay (names : List ℕ → Found) (latest : ℕ) (front : List �
 abbrev pub IsThroughout : (ℤ → ℤ) → Stretch → Type 0
 IsThroughout total stretch = (t : ℤ) → nanos_of stretch.from ≤ℤ t → t <ℤ nanos_of stretch.until → total t ≡ stretch.offset
 
--- These instants lie around one, on its local day and in the stretch's seconds. It is so late on that day at the first.
+-- These instants lie around one: all on its local day in the stretch's seconds. It is so late on that day at the first.
 pub record IsAround (stretch : Stretch) (now from until at_first : ℕ) : Type 0 where
   pub begun : from ≤ now
   pub lasts : now < until
@@ -81,3 +94,19 @@ pub record IsAround (stretch : Stretch) (now from until at_first : ℕ) : Type 0
   pub past : pos until ≤ℤ nanos_of stretch.until
   pub begins : at_first + now ≡ time_part (local_at (pos now) stretch.offset) + from
   pub day : at_first + until ≤ from + nanos_per_day
+  pub only : (t : ℤ) → nanos_of stretch.from ≤ℤ t → t <ℤ nanos_of stretch.until
+      → day_part (local_at t stretch.offset) ≡ day_part (local_at (pos now) stretch.offset) → (pos from ≤ℤ t) × (t <ℤ pos until)
+
+-- An instant is before the latest, on the local day of another, and in the seconds around that one from one at which something may begin
+-- up to one at which something may end, where this total is in force at each instant.
+pub record IsOnDay (begins ends total : ℤ → ℤ) (latest : ℕ) (now t : ℤ) : Type 0 where
+  pub begun : nanos_of (begins (seconds_of now)) ≤ℤ t
+  pub lasts : t <ℤ nanos_of (ends (seconds_of now))
+  pub day : day_part (local_at t (total now)) ≡ day_part (local_at now (total now))
+  pub early : t <ℤ pos latest
+
+-- the line is alike that text of a request for an instant, ends in digits, and asks by them for an instant on its day
+pub record IsOfDay (begins ends total : ℤ → ℤ) (latest : ℕ) (now : ℤ) (text line : List ℕ) : Type 0 where
+  pub alike : are_alike text line ≡ true
+  pub digits : ends_in_digits line ≡ true
+  pub there : IsOnDay begins ends total latest now (with_last now text line)

@@ -20,6 +20,12 @@ pub trait OpenedZone: Drop {
     /// The total in force at each instant, in nanoseconds from 1970-01-01 00:00:00 UTC.
     ghost total_at: { Self → ℤ → ℤ };
 
+    /// The second from which is in force what is at a second: that of the last entry up to it, or at which its cycle begins.
+    ghost begins_at: { Self → ℤ → ℤ };
+
+    /// The second up to which it is: that of the next entry, or at which its cycle ends.
+    ghost ends_at: { Self → ℤ → ℤ };
+
     /// The zone that a name finds in a table, which is bounded.
     ///
     /// # Errors
@@ -30,10 +36,13 @@ pub trait OpenedZone: Drop {
         ensures ok { IfOk result (λ zone. found_in_table read table.now name.now ≡ Ok (total_at zone)) }
         ensures err { IfErr result (TellsReading (zone_refusal number (found_in_table read table.now name.now))) };
 
-    /// Seconds around one throughout which one total is in force. They count from 1970-01-01 00:00:00 UTC, and it is one of them.
+    /// The seconds around one throughout which one total is in force, from where it begins up to where it ends. They count from
+    /// 1970-01-01 00:00:00 UTC, and it is one of them.
     fn stretch_at(&self, second: i64) -> Stretch
         requires { second ≤ℤ pos far_seconds }
         ensures throughout { IsThroughout (total_at self.now) result }
+        ensures from { result.from ≡ begins_at self.now second }
+        ensures until { result.until ≡ ends_at self.now second }
         ensures begun { result.from ≤ℤ second }
         ensures lasts { second <ℤ result.until };
 

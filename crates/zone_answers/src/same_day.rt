@@ -1,8 +1,8 @@
 //! Requests for instants of one local day whose lines differ in the last digits alone, as those of a log do: the answer to one is that to
 //! another with its own time of day.
-ghost use Rattle.std.specs.{Prelude.{◌≡◌, ◌+◌, ◌-◌, ◌*◌, ◌/◌, ◌≤◌, ◌<◌, ◌++◌, ◌==◌, ◌&&◌, ℕ, ℤ, pos, ◌≤ℤ◌, ◌<ℤ◌, int_le, int_lt, List, IfOk, IfSome, IsTrue, Ok, OnErr, true, false, is_some, length}};
-ghost use Rattle.civil_base.specs.{Clock.{nanos_per_day}, Instants.{local_at, nanos_of}, Ranges.{IsOffset}};
-ghost use Rattle.zone_answers.specs.{Asked.{asked}, AskedLaws.{Asks}, Due.{answer_text, shown_at}, Found.{Found}, Requests.{at, name_of, request_of}, SameDays.{IsAdded, IsAround, IsSameDay, are_alike, at_time, front_of, has_day, is_near, is_of, last_instant}};
+ghost use Rattle.std.specs.{Prelude.{◌≡◌, ◌+◌, ◌-◌, ◌*◌, ◌/◌, ◌≤◌, ◌<◌, ◌++◌, ◌==◌, ◌&&◌, ℕ, ℤ, pos, ◌≤ℤ◌, ◌<ℤ◌, ◌↔◌, int_le, int_lt, List, IfOk, IfSome, IsTrue, Ok, OnErr, true, false, is_some, length}, Str.Parse.{digits_value}};
+ghost use Rattle.civil_base.specs.{Clock.{nanos_per_day}, Instants.{local_at, nanos_of}, Layout.{time_part}, Ranges.{IsOffset}};
+ghost use Rattle.zone_answers.specs.{Asked.{asked}, AskedLaws.{Asks}, Due.{answer_text, shown_at}, Found.{Found}, Requests.{at, name_of, request_of}, SameDays.{IsAdded, IsAround, IsOfDay, IsSameDay, are_alike, asked_number, at_time, ends_in_digits, front_of, has_day, is_near, is_of, last_instant, last_of}};
 
 use crate::opened::OpenedZone;
 use crate::request::{Request, all_digits, last_number};
@@ -39,9 +39,11 @@ pub struct SameDay {
 
 impl SameDay {
     /// Those of the day of a request at the zone whose line is this text and which is answered by this line. They ask for instants before
-    /// the latest, in nanoseconds from 1970-01-01 00:00:00 UTC, which is at most 7,000,000,000,000,000,000. The request is one of them. None
-    /// exactly where it asks for no instant, for one before 1970-01-02 03:46:40 UTC or for one that isn't before the latest, or where the
-    /// line that answers it isn't as long as those of the years 0 to 9999, 39 bytes.
+    /// the latest, in nanoseconds from 1970-01-01 00:00:00 UTC, which is at most 7,000,000,000,000,000,000: for all of the request's local
+    /// day that lie in the zone's seconds around it and that the last fourteen digits can write. The request is one of them. None exactly
+    /// where it asks for no instant, for one before 1970-01-02 03:46:40 UTC or for one that isn't before the latest, where the line that
+    /// answers it isn't as long as those of the years 0 to 9999, 39 bytes, or where its text doesn't end in fourteen digits behind another
+    /// byte, as each does that asks for such an instant.
     pub fn of<Z: OpenedZone>(
         zone: &Z,
         text: &str,
@@ -49,18 +51,21 @@ impl SameDay {
         shown: &[u8],
         latest: u64,
     ) -> Option<SameDay>
-        requires latest { latest ≤ last_instant }
-        requires asks { Asks request_of text.now (asked request.now) }
-        requires range { (t : ℤ) → IsOffset (Z.total_at zone.now t) }
-        ensures day { IfSome result (λ day. (names : List ℕ → Found) → names (name_of (asked request.now)) ≡ Ok (Z.total_at zone.now)
-            → shown.now ≡ answer_text (shown_at (Z.total_at zone.now) (asked request.now)) → IsSameDay names latest (front_of text.now) day) }
+        requires { latest ≤ last_instant }
+        ensures day { IfSome result (λ day. (names : List ℕ → Found) → Asks request_of text.now (asked request.now)
+            → names (name_of (asked request.now)) ≡ Ok (Z.total_at zone.now)
+            → shown.now ≡ answer_text (shown_at (Z.total_at zone.now) (asked request.now)) → ((t : ℤ) → IsOffset (Z.total_at zone.now t))
+            → IsSameDay names latest (front_of text.now) day) }
         ensures here { IfSome result (λ day. is_of day text.now text.now ≡ true) }
-        ensures told { is_some result ≡ has_day latest (asked request.now) shown.now }
+        ensures whole { IfSome result (λ day. (line : List ℕ) → IsTrue (is_of day text.now line)
+            ↔ IsOfDay (Z.begins_at zone.now) (Z.ends_at zone.now) (Z.total_at zone.now) latest (asked_number (asked request.now)) text.now line) }
+        ensures told { is_some result ≡ (has_day latest (asked request.now) shown.now && ends_in_digits text.now) }
+        ensures asked { Asks request_of text.now (asked request.now) → is_some result ≡ has_day latest (asked request.now) shown.now }
     {
         let now = asked_instant(request, latest)?;
         let line = whole_line(shown)?;
-        let bytes = text.as_bytes();
-        let base = now - last_number(&bytes[bytes.len() - LAST..]);
+        let number = last_digits(text.as_bytes())?;
+        let base = now - number;
         let around = Around::of(&zone.stretch_at((now / NANOS_PER_SECOND) as i64), now);
         let from = around.from.max(base);
         let until = around.until.min(base + LAST_NUMBERS).min(latest);
@@ -140,6 +145,24 @@ fn whole_line(line: &[u8]) -> Option<[u8; 39]>
     Some(whole)
 }
 
+/// The number that the last fourteen bytes of a longer line write, if they are digits.
+#[tactic(auto, unfolding(crate::specs::SameDays::ends_in_digits))]
+fn last_digits(line: &[u8]) -> Option<u64>
+    ensures value { IfSome result (λ number. number ≡ digits_value 10 (last_of line.now)) }
+    ensures bound { IfSome result (λ number. number < 100000000000000) }
+    ensures told { is_some result ≡ ends_in_digits line.now }
+{
+    if line.len() <= LAST {
+        return None;
+    }
+    let last = &line[line.len() - LAST..];
+    if all_digits(last) {
+        Some(last_number(last))
+    } else {
+        None
+    }
+}
+
 /// The instant that a request asks for, if it lies between the second of January 1970 and the latest.
 #[tactic(auto, unfolding(crate::specs::SameDays::is_near))]
 fn asked_instant(request: &Request<'_>, latest: u64) -> Option<u64>
@@ -183,11 +206,10 @@ impl Around {
         requires early { now ≤ last_instant }
         requires begun { stretch.now.from ≤ℤ pos (now / 1000000000) }
         requires lasts { pos (now / 1000000000) <ℤ stretch.now.until }
-        requires offset { IsOffset stretch.now.offset }
         ensures { IsAround stretch.now now result.from result.until result.begins }
     {
         let second = now / NANOS_PER_SECOND;
-        let midnight = now - local_nanos(now, stretch.offset) % NANOS_PER_DAY;
+        let midnight = now - time_of_day(now, stretch.offset);
         let from = first_nanos(stretch.from, second).max(midnight);
         let until = past_nanos(stretch.until, second).min(midnight + NANOS_PER_DAY);
         Around {
@@ -198,14 +220,14 @@ impl Around {
     }
 }
 
-/// The local time of an instant, in nanoseconds from the local 1970-01-01 00:00:00, which it isn't before.
-fn local_nanos(now: u64, offset: i32) -> u64
-    requires late { 100000000000000 ≤ now }
-    requires early { now ≤ last_instant }
-    requires offset { IsOffset offset }
-    ensures { pos result ≡ local_at (pos now) offset }
+/// The time of day of an instant, in nanoseconds from midnight, so many seconds east of UTC.
+#[tactic(auto, unfolding(civil_base::specs::Layout::time_part))]
+fn time_of_day(now: u64, offset: i32) -> u64
+    requires { now ≤ last_instant }
+    ensures time { result ≡ time_part (local_at (pos now) offset) }
+    ensures bound { result < nanos_per_day }
 {
-    (now as i64 + i64::from(offset) * 1_000_000_000) as u64
+    (now as i64 + i64::from(offset) * 1_000_000_000).rem_euclid(86_400_000_000_000) as u64
 }
 
 /// The first nanosecond of a second up to another, or that of 1970.
@@ -213,6 +235,7 @@ fn first_nanos(second: i64, other: u64) -> u64
     requires begun { second ≤ℤ pos other }
     requires early { other ≤ 7000000000 }
     ensures later { nanos_of second ≤ℤ pos result }
+    ensures least { (t : ℤ) → pos 0 ≤ℤ t → nanos_of second ≤ℤ t → pos result ≤ℤ t }
     ensures first { result ≤ other * 1000000000 }
 {
     if second < 0 {
@@ -227,6 +250,7 @@ fn past_nanos(second: i64, other: u64) -> u64
     requires lasts { pos other <ℤ second }
     requires early { other ≤ 7000000000 }
     ensures sooner { pos result ≤ℤ nanos_of second }
+    ensures greatest { (t : ℤ) → t <ℤ nanos_of second → t <ℤ pos ((other + 172800) * 1000000000) → t <ℤ pos result }
     ensures past { (other + 1) * 1000000000 ≤ result }
     ensures bound { result ≤ 8000000000000000000 }
 {

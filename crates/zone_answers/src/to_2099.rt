@@ -43,13 +43,17 @@ fn compact(alloc: Global, set: &FixedTimespanSet) -> Result<CompactSet, AllocErr
 }
 
 impl OpenedZone for CompactSet {
-    ghost use Rattle.tz_lookup.specs.{CompactShown.{seen}, Sets.{schedule_of}};
+    ghost use Rattle.tz_lookup.specs.{CompactShown.{seen}, Sets.{schedule_of}, Stretches.{stretch_begin, stretch_end}};
     ghost use Rattle.zone_answers.specs.Found.{to_2099};
     ghost use Rattle.zone_spans.specs.Schedules.{total_at};
 
     ghost read = { to_2099 };
 
     ghost total_at = { λ set. total_at (schedule_of (seen set)) };
+
+    ghost begins_at = { λ set. stretch_begin (schedule_of (seen set)) };
+
+    ghost ends_at = { λ set. stretch_end (schedule_of (seen set)) };
 
     fn open(
         alloc: Global,

@@ -37,12 +37,16 @@ impl FoundZone for EverZone {
 }
 
 impl OpenedZone for EverZone {
-    ghost use Rattle.tz_ever.specs.{Ever.{ever_total}, EverShown.{ever_seen}};
+    ghost use Rattle.tz_ever.specs.{Ever.{ever_total}, EverShown.{ever_seen}, Stretches.{ever_begin, ever_end}};
     ghost use Rattle.zone_ever.specs.Readings.{for_ever};
 
     ghost read = { for_ever };
 
     ghost total_at = { λ zone. ever_total (ever_seen zone.set) };
+
+    ghost begins_at = { λ zone. ever_begin (ever_seen zone.set) };
+
+    ghost ends_at = { λ zone. ever_end (ever_seen zone.set) };
 
     fn open(
         alloc: Global,

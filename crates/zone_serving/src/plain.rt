@@ -87,11 +87,10 @@ fn show<Z: OpenedZone>(
     line: &Line<'_>,
     reply: &mut Reply,
 ) -> Result<(), Refusal>
-    requires spelled { IsSpelled (asked line.now.spelled.now.request) line.now.spelled.now.value.now }
-    requires asks { Asks request_of line.now.text.now (asked line.now.spelled.now.request) }
+    requires { IsSpelled (asked line.now.spelled.now.request) line.now.spelled.now.value.now }
     ensures answer { IsPut (shown_answer (asked line.now.spelled.now.request) (Z.total_at zone.now)) reply.new.text.items result }
-    ensures day { OnOk result ((names : List ℕ → Found) → names (name_of (asked line.now.spelled.now.request)) ≡ Ok (Z.total_at zone.now)
-        → IsDayOf names line.now.text.now reply.new.day) }
+    ensures day { OnOk result ((names : List ℕ → Found) → Asks request_of line.now.text.now (asked line.now.spelled.now.request)
+        → names (name_of (asked line.now.spelled.now.request)) ≡ Ok (Z.total_at zone.now) → IsDayOf names line.now.text.now reply.new.day) }
     ensures kept { OnErr result (reply.new.day ≡ reply.old.day) }
 {
     let request = &line.spelled.request;

@@ -1,6 +1,6 @@
-use Rattle.std.proofs.{Common.{◌≤ℤ◌, ◌<ℤ◌, SFits, rules, sym, ◌∙◌, subst, w32, w64, arith}, lemmas.Int.{ints, to_z-of_z}}
+use Rattle.std.proofs.{Common.{ap, ◌≤ℤ◌, ◌<ℤ◌, SFits, rules, sym, ◌∙◌, subst, w32, w64, arith}, lemmas.Int.{ints, to_z-of_z}}
 use Rattle.tz_zone.specs.{Sets.{schedule_of, shifts_of}, Spans.{IsCut}}
-use Rattle.tz_lookup.{specs.CompactShown.{seen}, proofs.StretchLemmas.{at_second}}
+use Rattle.tz_lookup.{specs.{CompactShown.{seen}, Stretches.{stretch_begin, stretch_end}}, proofs.StretchLemmas.{at_second, begins_there, ends_there}}
 use Rattle.tz_lookup.proofs.stretch.stretch_under.Goals as goal
 
 pub returns-clause-is : goal.returns-clause-is
@@ -31,3 +31,17 @@ returns-clause-lasts g c = λ early.
     let until_fits : SFits w64 c.span_end-until.result = search rules in
     subst (λ t. c.args.second <ℤ t) (sym (to_z-of_z w64 _ until_fits))
     (subst (λ t. t <ℤ c.span_end-until.result) same (c.span_end-until.ensures.lasts (omega (arith, ints, same, early))))
+
+pub returns-clause-from : goal.returns-clause-from
+returns-clause-from g c =
+    let zone = schedule_of (seen c.args.set.now) in
+    let fits : SFits w64 c.span_begin-from.result = search rules in
+    to_z-of_z w64 _ fits ∙ begins_there zone c.span_of-span.result _ c.span_begin-from.result c.span_of-span.ensures c.span_begin-from.ensures.is
+    ∙ ap (stretch_begin zone) (to_z-of_z w64 c.args.second c.ranges.second)
+
+pub returns-clause-until : goal.returns-clause-until
+returns-clause-until g c =
+    let zone = schedule_of (seen c.args.set.now) in
+    let fits : SFits w64 c.span_end-until.result = search rules in
+    to_z-of_z w64 _ fits ∙ ends_there zone c.span_of-span.result _ c.span_end-until.result c.span_of-span.ensures c.span_end-until.ensures.next c.span_end-until.ensures.last
+    ∙ ap (stretch_end zone) (to_z-of_z w64 c.args.second c.ranges.second)

@@ -63,11 +63,6 @@ returns-in_err-show_line-clause-err g c =
     let error = err_from_is_err_and c.from_residual-in_err-show_line.result c.from_residual-in_err-show_line.ensures.1 in
     rw (dates_are (found_in_table g.Z.OpenedZone.read (table_of c.args.zones.now)) c.args.number c.args.line.now (asked request) _ reads found, error.1, error.2) c.in_err-show_line.ensures.err
 
-pub of-day-requires-clause-asks : goal.of-day-requires-clause-asks
-of-day-requires-clause-asks g c =
-    let text = c.in-Some.ensures.text in
-    asks request_of c.in-Some.asked.now c.in-Some.asked.now (asked c.in-Some-read.spelled.request) (ap is_utf8 text.0 ∙ text.1) refl c.in-Some-read.ensures.read
-
 -- what is kept of the day, where the line was shown
 pub keep-requires-clause-day : goal.keep-requires-clause-day
 keep-requires-clause-day g c =
@@ -75,7 +70,9 @@ keep-requires-clause-day g c =
     let there = placed_there _ c.place_of.new.self.opened c.in_ok-place.place _ c.zone_at-zone.ensures c.in_ok-place.ensures.placed in
     let found = rw c.name.ensures at there in
     let read = g.Z.OpenedZone.read in
+    let text = c.in-Some.ensures.text in
+    let asks = asks request_of c.in-Some.asked.now c.in-Some.asked.now (asked request) (ap is_utf8 text.0 ∙ text.1) refl c.in-Some-read.ensures.read in
     IfSome_then c.of-day.result c.of-day.ensures.day (λ day law.
-    law (found_in_table read (table_of c.place_of.new.self))
+    law (found_in_table read (table_of c.place_of.new.self)) asks
     (subst (λ table. found_in_table read table (name_of (asked request)) ≡ Ok (g.Z.OpenedZone.total_at c.zone_at-zone.result.now)) (sym c.in_ok-place.ensures.same) found)
-    (c.deref.ensures.value ∙ c.in_ok-show_line.ensures.text))
+    (c.deref.ensures.value ∙ c.in_ok-show_line.ensures.text) c.show_line.ensures.range)

@@ -10,7 +10,7 @@ returns-after-line-clause-day g c =
     let line = answer_text (shown_at (g.Z.OpenedZone.total_at c.args.zone.now) (asked c.args.line.now.spelled.now.request)) in
     let shown = c.in-Ok-true.ensures.line c.in-Ok-true.field-0-test ∙ ap (λ t. t ++ line) c.clear.ensures.items in
     elim c.if-line.branch [
-      | then-line w ↦ λ names found. subst (λ reply. IsDayOf names text reply.day) (sym w.reply-is)
-          (IfSome_then w.of-reply.result w.of-reply.ensures.day (λ day law. law names found (w.deref.ensures.value ∙ shown)))
-      | else-line w ↦ λ names found. subst (λ reply. IsDayOf names text reply.day) (sym w.reply-is) tt
+      | then-line w ↦ λ names asks found. subst (λ reply. IsDayOf names text reply.day) (sym w.reply-is)
+          (IfSome_then w.of-reply.result w.of-reply.ensures.day (λ day law. law names asks found (w.deref.ensures.value ∙ shown) c.show_spelled.ensures.range))
+      | else-line w ↦ λ names asks found. subst (λ reply. IsDayOf names text reply.day) (sym w.reply-is) tt
     ]
