@@ -97,8 +97,7 @@ pub record IsAround (stretch : Stretch) (now from until at_first : ℕ) : Type 0
   pub only : (t : ℤ) → nanos_of stretch.from ≤ℤ t → t <ℤ nanos_of stretch.until
       → day_part (local_at t stretch.offset) ≡ day_part (local_at (pos now) stretch.offset) → (pos from ≤ℤ t) × (t <ℤ pos until)
 
--- An instant is before the latest, on the local day of another, and in the seconds around that one from one at which something may begin
--- up to one at which something may end, where this total is in force at each instant.
+-- An instant is on the day of another: before the latest, on that one's local day, and while what is in force there lasts.
 pub record IsOnDay (begins ends total : ℤ → ℤ) (latest : ℕ) (now t : ℤ) : Type 0 where
   pub begun : nanos_of (begins (seconds_of now)) ≤ℤ t
   pub lasts : t <ℤ nanos_of (ends (seconds_of now))

@@ -1,4 +1,4 @@
-use Rattle.std.proofs.{Common.{ap, arith, map, rules, subst, sym, ◌∙◌}, lemmas.List.{take_all}}
+use Rattle.std.proofs.{Common.{ap, arith, length, map, take, rules, subst, sym, ◌∙◌}, lemmas.List.{take_all}}
 use Rattle.civil_base.specs.Layout.{local_text}
 use Rattle.tz_zone.specs.AllLeft.{all_left}
 use Rattle.tz_lookup.specs.InForce.{shown_of}
@@ -14,3 +14,9 @@ pub add_spelled-requires : goal.add_spelled-requires
 unfolding shown_of
 add_spelled-requires g c =
     let at = subst (λ dates. AreAt c.args.local.now (map shown_of dates)) c.in-Some.ensures.steps c.loop-date.invariant.2 in ap local_text at.0 ∙ c.requires
+
+pub returns-in_err-add_bytes-clause-front : goal.returns-in_err-add_bytes-clause-front
+returns-in_err-add_bytes-clause-front g c = ap (take (length c.args.text.now.items)) c.in_err-add_bytes.ensures.err ∙ c.loop-date.invariant.1
+
+pub returns-in_err-add_bytes-2-clause-front : goal.returns-in_err-add_bytes-2-clause-front
+returns-in_err-add_bytes-2-clause-front g c = ap (take (length c.args.text.now.items)) c.in_err-add_bytes-2.ensures.err ∙ c.loop-date.invariant.1

@@ -1,3 +1,4 @@
+use Rattle.std.proofs.{Common.{ap, length, take, ◌∙◌}, Math.Seq.{take-append_seam}}
 use Rattle.zone_answers.{proofs.ZoneLemmas.{each_kept, each_stays, last_stays, stands_last}, specs.Opened.{IsOpened}}
 use Rattle.zone_answers.proofs.opened.Zones.open_stem.Goals as goal
 
@@ -21,3 +22,13 @@ returns-clause-opened g c =
       day = c.requires.day;
       last = rw c.in_ok-push.ensures.ok (last_stays kind table opened _ c.args.self.now.last c.requires.last);
     }
+
+pub returns-clause-kept : goal.returns-clause-kept
+returns-clause-kept g c =
+    let opened = c.args.self.now.opened in
+    ap (take (length opened)) c.in_ok-push.ensures.ok ∙ take-append_seam opened _
+
+pub returns-in_err-insert-clause-kept : goal.returns-in_err-insert-clause-kept
+returns-in_err-insert-clause-kept g c =
+    let opened = c.args.self.now.opened in
+    ap (take (length opened)) c.in_ok-push.ensures.ok ∙ take-append_seam opened _
