@@ -70,6 +70,12 @@ class Fuzzer:
         self.runner.drop(path)
         return run
 
+    def plain(self, text):
+        path = self.runner.keep(text)
+        run = self.runner.run("zone plain", ["plain", path], text)
+        self.runner.drop(path)
+        return run
+
     def hold(self, claim, name, text, *details):
         self.tally.hold(claim, name, *details, f"source {text.decode('utf-8', 'backslashreplace')!r}"[:3000])
 
@@ -91,7 +97,7 @@ class Fuzzer:
         got = run.output.decode().split("\n")[:-1]
         wrong = [(request, due, line) for (request, due), line in zip(asked, got) if due != line]
         self.hold(run.status == 0 and not run.errors and len(got) == len(asked) and not wrong, name, text, run.told(), *wrong[:3])
-        if "zone_plain" in self.programs:
+        if "zone plain" in self.programs:
             self.written_plain(name, text, asked)
         if "zone_file_answers" in self.programs:
             self.over_file(r, name, zones[names[0]])
@@ -112,10 +118,10 @@ class Fuzzer:
 
     def written_plain(self, name, text, asked):
         """The same source in its plain form gives the same answers."""
-        plain = self.run("zone_plain", [], text)
+        plain = self.plain(text)
         run = self.run("zone_answers", [], plain.output, [request for request, _ in asked])
         due = "".join(f"{answer}\n" for _, answer in asked)
-        self.hold((plain.status, plain.errors, run.status, run.output.decode()) == (0, b"", 0, due), f"{name}: zone_plain", text, plain.told(), run.told())
+        self.hold((plain.status, plain.errors, run.status, run.output.decode()) == (0, b"", 0, due), f"{name}: zone plain", text, plain.told(), run.told())
 
     def over_file(self, r, name, zone):
         """The file that zic made, asked for the same, and with some bytes changed."""
@@ -200,8 +206,8 @@ class Fuzzer:
         self.tally.note(f"broken sources that end with {run.status}")
         if self.has_form(name, "zone_answers", run, text, 11) and run.status == 0:
             self.asked_back(name, zone, text, run.output.decode())
-        if "zone_plain" in self.programs:
-            self.has_form(f"{name}: zone_plain", "zone_plain", self.run("zone_plain", [], text), text, None)
+        if "zone plain" in self.programs:
+            self.has_form(f"{name}: zone plain", "zone plain", self.plain(text), text, None)
         for program in self.another(r):
             run = self.run(program.name, [zone, *program.words[2:]], text)
             self.has_form(f"{name}: {program.name}", program.name, run, text, None)

@@ -7,6 +7,7 @@ from programs import SMALL
 
 NEW_YORK = "America/New_York"
 REQUESTS = b"at America/New_York @1710053999\nlocal America/New_York 2024-11-03 01:30\nwhat\nat US/Eastern @0\n"
+PLAIN_REQUESTS = b"at America/New_York 1710053999000000000\nat America/New_York 5686009200000000000\nwhat\nlocal US/Eastern 2150-07-01 12:00:00.000000000\n"
 LOG = b"1710053999 a\nno time\n@0 b"
 
 # The words behind --source FILE, and the input.
@@ -23,6 +24,7 @@ CASES = [
     (("at", "Nowhere", "@0"), b""),
     (("local", NEW_YORK, "2024-03-10"), b""),
     (("stream",), REQUESTS),
+    (("stream", "--plain"), PLAIN_REQUESTS),
     (("log", NEW_YORK), LOG),
 ]
 SHORTAGE = (3, 4, 5, 7)

@@ -23,7 +23,8 @@ SOURCE, ANY_SOURCE, COMPILED = "source", "any source", "compiled"
 @dataclass(frozen=True)
 class Program:
     """A program: its words, the form of what it writes at status 0, the label and the own causes of its fault lines, what its file
-    is, and whether standard input holds requests."""
+    is, and whether standard input holds requests. A name of two words is a command of `zone`, whose faults are told on standard error: a
+    run of it has them as its output (`running.py`)."""
     name: str
     words: tuple
     form: str
@@ -38,7 +39,7 @@ class Program:
 
     def is_fault(self, output):
         """Whether these bytes are a fault line."""
-        of_file = {SOURCE: f"{SOURCE_FAULTS}|{self.label}: ({ZONE_FAULTS})", ANY_SOURCE: r"source \d+: (not text|line \w+)", COMPILED: "file: refused"}
+        of_file = {SOURCE: f"{SOURCE_FAULTS}|{self.label}: ({ZONE_FAULTS})", ANY_SOURCE: UNREAD, COMPILED: "file: refused"}
         fault = f"{of_file[self.takes]}|{self.label}: ({self.causes})"
         return re.fullmatch(rf"({fault})\n".encode(), output) is not None
 
@@ -57,28 +58,32 @@ class Program:
         """Whether it is asked for one zone, which its words name."""
         return NEW_YORK in self.words
 
-    def has_all_zones(self):
-        """Whether it takes every zone of a source."""
-        return self.takes == SOURCE and not self.has_input and not self.has_zone()
+    def script(self):
+        """The script that starts it, which is its program's name too."""
+        return self.name.split()[0]
 
 
 NEW_YORK = "America/New_York"
 
-# What isn't in the table: the command for people tells its faults on standard error, and bin/try_zone tries it.
+# What `zone` tells of a file that is no source in any form.
+UNREAD = (r'zone: "[^"\n]*": (this is a compiled file, and a source is wanted|line \d+ of this source( in plain form)? can\'t be read: [^\n]+'
+          "|this source has more than 16,777,216 bytes( in plain form)?)")
+
+# What of `zone` isn't in the table is tried by people.py, and by bin/try_zone.
 APART = ("zone",)
 
 ANSWERS = rf"(({ZONED}( \| {ZONED})*|none)\n)*"
 
 PROGRAMS = [
     Program("zone_answers", (FILE,), ANSWERS, r"request \d+", "not text|request|range", has_input=True),
-    Program("zone_ever", ("answers", FILE), ANSWERS, r"request \d+", "not text|request|range|rules end", has_input=True),
     Program("zone_file_answers", (FILE,), ANSWERS, r"request \d+", "not text|request|range", takes=COMPILED, has_input=True),
-    Program("zone_plain", (FILE,), r"(# version [^\n]+\n)?((Rule|Zone|Link)? [^\n]*\n)*", "plain", "too long", takes=ANY_SOURCE),
+    Program("zone plain", ("plain", FILE), r"(# version [^\n]+\n)?((Rule|Zone|Link)? [^\n]*\n)*", "zone", "out of memory", takes=ANY_SOURCE),
     Program("zone_list", (FILE, NEW_YORK, "1000000000", "4102444800"), rf"( *-?\d+  [^\n]*  {ZONED}\n)*", "list", "range"),
     Program("zone_alarm", (FILE, NEW_YORK, "2024-03-09", "02:30:00", "30"), rf"(({ZONED}|-?\d{{4}}-\d\d-\d\d none)\n)*", "alarm", "range"),
     Program("zone_tail", (FILE, NEW_YORK), r"(-?\d+|all) [^\n]+\n", "tail", "shape|range|name"),
     Program("zone_tzif", (FILE, NEW_YORK), r"TZif[\0-\xff]*", "tzif", "times|types|names"),
-    Program("zone_tree", (FILE,), r"[\0-\xff]*\0{1024}", r"tree [^\n]{1,255}", "format|times|types|names|link|name|size"),
+    Program("zone tree", ("--source", FILE, "tree"), r"[\0-\xff]*\0{1024}", "zone", r'"[^\n]+": [^\n]+', takes=ANY_SOURCE),
+    Program("zone tree --to-2099", ("--source", FILE, "tree", "--to-2099"), r"[\0-\xff]*\0{1024}", "zone", r'"[^\n]+": [^\n]+', takes=ANY_SOURCE),
 ]
 
 # A zone of two yearly rules, which zic can compile.
@@ -148,7 +153,8 @@ def small_cases(programs, compiled):
             cases += [Case(program, program.words, compiled, without_names(given)), Case(program, program.words, compiled + b"x")]
             continue
         cases.append(Case(program, program.words, SMALL, given))
-        cases.append(Case(program, program.words, SMALL + b"Zone America/New_York 0:00 - UTC\n", given))
+        if program.takes == SOURCE:
+            cases.append(Case(program, program.words, SMALL + b"Zone America/New_York 0:00 - UTC\n", given))
         if program.name == "zone_answers":
             cases.append(Case(program, ("--generate", "2"), b""))
             cases.append(Case(program, program.words, SMALL, REQUESTS + b"at Test/Other 0\n"))
@@ -159,4 +165,4 @@ def small_cases(programs, compiled):
 
 def standing(root):
     """The programs of the table whose script stands in bin/."""
-    return [program for program in PROGRAMS if os.path.exists(os.path.join(root, "bin", program.name))]
+    return [program for program in PROGRAMS if os.path.exists(os.path.join(root, "bin", program.script()))]

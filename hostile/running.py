@@ -94,7 +94,7 @@ class Runner:
             environment = {"LD_PRELOAD": self.shim, "HOSTILE_COUNTS": counts}
             environment.update((f"HOSTILE_{key.upper()}", str(value)) for key, value in told.items())
         pipes = {"stdin": subprocess.PIPE, "stdout": subprocess.PIPE, "stderr": subprocess.PIPE} | streams
-        process = subprocess.Popen([self.paths[name], *words], env=environment, **pipes)
+        process = subprocess.Popen([self.paths[name.split()[0]], *words], env=environment, **pipes)
         seconds = SECONDS + SECONDS_PER_MEGABYTE * (len(text) + len(given)) // 1_000_000
         try:
             resource.prlimit(process.pid, resource.RLIMIT_CPU, (seconds, seconds))
@@ -107,7 +107,16 @@ class Runner:
             process.kill()
             output, errors = process.communicate()
             status = None
-        return Run(status, output or b"", errors or b"", read_counts(counts))
+        run = Run(status, output or b"", errors or b"", read_counts(counts))
+        return told_as_output(run) if " " in name else run
+
+
+def told_as_output(run):
+    """The same run with the line of a fault as its output, and without one of the other statuses."""
+    is_line = run.errors.startswith(b"zone: ") and run.errors.endswith(b"\n") and run.errors.count(b"\n") == 1
+    if run.status in (None, 0, 4) or run.output or not is_line:
+        return run
+    return Run(run.status, run.errors if run.status == 2 else b"", b"", run.counts)
 
 
 def read_counts(path):

@@ -13,8 +13,9 @@ ZONE = b"Zone A 0:00 - AAA\n"
 # What may be due: answers; answers, or that memory ran out; a fault line of the program's own label; no bytes and this status.
 ANSWERS, MAY_RUN_OUT, UNKNOWN = "answers", "answers or 5", "unknown zone"
 
-# The texts whose zone doesn't go on for ever: its last line has an end, a line ends after 2099, or what its rules do doesn't come again.
-ENDING = {"16 MiB: spaces between fields", "16 MiB: continuations", "10,000 rules of all years"}
+# What `zone plain` tells of a text that takes too much in plain form, and of one that is no UTF-8 in a line.
+TOO_LONG = "this source has more than 16,777,216 bytes in plain form"
+NOT_TEXT = "line {} of this source can't be read: it isn't text in UTF-8"
 
 
 @dataclass(frozen=True)
@@ -22,7 +23,7 @@ class Text:
     name: str
     text: bytes
     due: object
-    # The fault line that is due of `zone_plain`, where it has one of its own.
+    # What is due of `zone plain`, where that is its own.
     due_of_plain: object = None
 
 
@@ -164,7 +165,7 @@ def large_texts():
     yield Text("100,000 continuations", b"Zone A 0:00 - AAA 1\n" + b"".join(b" 1:00 - BBB %s\n" % day_of(n) for n in range(99_999)) + b" 0:00 - CCC\n", ANSWERS)
     yield Text("10,000 rules of all years", b"".join(map(all_years, range(10_000))) + b"Zone A 0:00 R AAA\n", ANSWERS)
     yield Text("rules from min on", b"".join(map(rule, range(1000))) + b"Zone A 0:00 R AAA\n", "schedule RuleYears")
-    yield Text("2,000 rules under 2,000 offsets of %z", rules_and_offsets(2_000), ANSWERS, "plain: too long")
+    yield Text("2,000 rules under 2,000 offsets of %z", rules_and_offsets(2_000), ANSWERS, TOO_LONG)
     yield Text("400 rulesets of 200 rules that differ in their last", rulesets_alike(400, 200, 30_000), ANSWERS)
     megabyte = b"M" * 1_000_000
     yield Text("a zone's name of a megabyte", ZONE + b"Zone " + megabyte + b" 0:00 - AAA\n", ANSWERS)
@@ -230,7 +231,9 @@ def is_due(program, run, due):
         return answers or program.is_own_fault(run.output)
     if due == MAY_RUN_OUT:
         return answers or program.is_own_fault(run.output) or (run.status, run.output) == (5, b"")
-    if due.startswith(("source", "request", "file", "plain")):
+    if program.takes == ANY_SOURCE:
+        return fault and run.output.endswith(f'": {due}\n'.encode())
+    if due.startswith(("source", "request", "file")):
         return fault and run.output == due.encode() + b"\n"
     return fault and re.fullmatch(rf"{program.label}: {due}\n".encode(), run.output) is not None
 
@@ -238,20 +241,14 @@ def is_due(program, run, due):
 def due_of(program, text):
     """What is due of a program that reads the text as another kind of file, or that looks for no zone A in it."""
     due = text.due
-    if program.name == "zone_ever" and text.name in ENDING:
-        return "rules end"
-    if program.name == "zone_plain" and text.due_of_plain is not None:
+    if program.takes == ANY_SOURCE and text.due_of_plain is not None:
         return text.due_of_plain
-    if program.has_all_zones():
-        if due in (ANSWERS, MAY_RUN_OUT):
-            return MAY_RUN_OUT
-        return None if isinstance(due, str) and not due.startswith("source") else due
     if program.takes == SOURCE or due == 6:
         return due
     if program.takes == COMPILED:
         return "file: refused"
-    is_same = isinstance(due, str) and due.endswith("not text")
-    return due if is_same else None
+    is_told = isinstance(due, str) and due.startswith("source ") and due.endswith("not text")
+    return NOT_TEXT.format(due.split()[1].rstrip(":")) if is_told else None
 
 
 def try_all(pool, runner, tally, programs, compiled):

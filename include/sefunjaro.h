@@ -325,13 +325,13 @@ uint32_t sefunjaro_tzif_for_ever_by(struct sefunjaro_zone *copy, uint8_t *file, 
 void sefunjaro_version(char *text, size_t room, size_t *whole, struct sefunjaro_years *years);
 
 /* Opens a source from its text in any form that zic reads: words cut short, times and days in each form of zic's manual, quotes, links to
-   links, %z. What is opened is its plain form, as the program zone_plain writes it. What the handle held before is closed first. The text
+   links, %z. What is opened is its plain form, as zone plain writes it. What the handle held before is closed first. The text
    is used no more after the call.
    TOO_LONG; NO_PLAIN_FORM, with the first line that is refused and why; NOT_TEXT, BAD_LINE or BAD_JOIN, of the plain form, in which the
    line is counted, and not in the text; NO_MEMORY. */
 uint32_t sefunjaro_source_open(const char *text, size_t length, struct sefunjaro_source *source, struct sefunjaro_fault *fault);
 
-/* Opens a source from its text in plain form, and in no other: what zone_plain wrote, which it reads in less time. A line of another form
+/* Opens a source from its text in plain form, and in no other: what zone plain wrote, which it reads in less time. A line of another form
    is refused, or has the meaning that the plain form gives it: `%z` is then an abbreviation like any other. What the handle held before
    is closed first. The text is used no more after the call.
    TOO_LONG, NOT_TEXT, BAD_LINE, BAD_JOIN (of the first line that is refused), NO_MEMORY. */

@@ -42,6 +42,42 @@ def program(name):
     return programs(name)[0]
 
 
+def run_zone(*given, **how):
+    """A run of `zone` with these words, and its output as text."""
+    return subprocess.run([program("zone"), *given], capture_output=True, text=True, **how)
+
+
+def plain_form(source, path):
+    """Writes the plain form of a source to a file."""
+    run = run_zone("plain", source)
+    if run.returncode:
+        sys.exit(f"zone plain: status {run.returncode}, {run.stderr.strip()}")
+    with open(path, "w", encoding="utf-8", newline="") as file:
+        file.write(run.stdout)
+    return path
+
+
+def answered(source, requests):
+    """The answers of `zone stream --plain` to requests of zone_answers."""
+    run = run_zone("--source", source, "stream", "--plain", input=requests)
+    return run.stdout.splitlines() if run.returncode == 0 else sys.exit(f"zone stream --plain: status {run.returncode}, {run.stdout[:100]!r}")
+
+
+def in_full(clock):
+    """What clocks show as `zone` writes it for people, in the words of the other programs: the name, and then date, time and offset."""
+    day, time, offset, name = clock.split()
+    return [name, day, f"{time}.000000000", offset if len(offset) > 6 else f"{offset}:00"]
+
+
+def listed(source, name, begin, end):
+    """The changes of a zone from a second on and before another, as zone_list has them in its rows."""
+    run = run_zone("--source", source, "list", name, f"@{begin}", f"@{end}", stdin=subprocess.DEVNULL)
+    if run.returncode:
+        sys.exit(f"zone list {name}: status {run.returncode}, {run.stderr.strip()}")
+    rows = (line.removeprefix("@").split(": ", 1) for line in run.stdout.splitlines())
+    return [[second, *in_full(clocks.split(" to ")[1].split(",")[0])] for second, clocks in rows]
+
+
 def named_copy(source, path):
     """Writes a copy of a source with `%z` replaced by `ZZZ`: zic spells out that name, and the programs take it as it stands."""
     with open(source, encoding="utf-8") as file, open(path, "w", encoding="utf-8") as copy:

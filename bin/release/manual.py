@@ -10,10 +10,10 @@ from checkout import epoch, programs, read, version
 
 MACHINE = "/usr/share/zoneinfo/tzdata.zi"
 # What makes the file that most examples are over.
-SOURCE = markdown.Command(f"zone_plain {MACHINE} > zones.txt", [])
+SOURCE = markdown.Command(f"zone plain {MACHINE} > zones.txt", [])
 OUTSIDE = ["tzfile(5)", "zdump(8)", "zic(8)"]
 ELSEWHERE = "What goes for all programs, and what each fault line means, stands in `sefunjaro(7)`."
-SHIPPED = "The source of the tz database, as most systems have it; `zone_plain(1)` writes it in plain form."
+SHIPPED = "The source of the tz database, as most systems have it; `zone(1)` writes it in plain form."
 BUILT_HERE = "9"
 # A word of a command that may be a file in the folder.
 READ = re.compile(r"(?:^|\s|\$PWD/)([\w.]+)(?=\s|$)")
@@ -50,7 +50,7 @@ def installed(command):
 
 
 def is_made_for(words, name):
-    """Whether a text begins with a call of the program, as `zone_answers --generate N` or `zone_ever list FILE NAME FROM TO`."""
+    """Whether a text begins with a call of the program, as `zone_answers --generate N` or `zone plain FILE`."""
     return words.startswith(f"`{name} ")
 
 

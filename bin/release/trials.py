@@ -75,7 +75,7 @@ def requests():
 def answers(root):
     """The README's requests over the root's own source, and what it asks `zone`."""
     command, lines = requests()
-    due("the requests of README.md", lines, root.ask(f"cd /tmp && zone_plain {MACHINE} > zones.txt && {command}"))
+    due("the requests of README.md", lines, root.ask(f"cd /tmp && zone plain {MACHINE} > zones.txt && {command}"))
     asked = [found for found in markdown.of_page("README.md") if "bin/zone " in found.command]
     for command, lines in asked:
         due(command, "\n".join(lines) + "\n", root.ask(installed(command)))
@@ -111,8 +111,8 @@ def words(root):
             raise Stop(f"{name} doesn't know --help or --version")
         told, status = root.run(name)
         due(f"{name} without a word", (True, 1), (told.startswith(f"{name}: " if is_bare else begins), status))
-    due("a file that isn't there", ("zone_tree: there is no file /none\n", 3), root.run("zone_tree /none"))
-    due("a link to a front", root.ask("zone_tree --version"), root.ask("ln -s $(command -v zone_tree) /tmp/linked && /tmp/linked --version"))
+    due("a file that isn't there", ("zone_list: there is no file /none\n", 3), root.run("zone_list /none A 0 1"))
+    due("a link to a front", root.ask("zone_list --version"), root.ask("ln -s $(command -v zone_list) /tmp/linked && /tmp/linked --version"))
 
 
 def completed(root, prefix):
@@ -247,9 +247,9 @@ def unpacked(release, folder):
 
 def completed_by_zsh(prefix, folder):
     """What zsh completes, over a file and over this machine's own source."""
-    run("sh", "-c", f"{prefix}/bin/zone_plain {MACHINE} > zones.txt", cwd=folder)
-    for words, wanted in (("zone at Europe/Par", "Europe/Paris"), ("zone conv", "convert"), ("zone --rf", "--rfc3339"), ("zone_ever li", "list"),
-                          ("zone_list zones.txt Europe/Par", "Europe/Paris"), ("zone_ever list zones.txt Europe/Par", "Europe/Paris")):
+    run("sh", "-c", f"{prefix}/bin/zone plain {MACHINE} > zones.txt", cwd=folder)
+    for words, wanted in (("zone at Europe/Par", "Europe/Paris"), ("zone conv", "convert"), ("zone --rf", "--rfc3339"), ("zone pla", "plain"),
+                          ("zone_list zones.txt Europe/Par", "Europe/Paris")):
         line = " ".join([*words.split()[:-1], wanted])
         due("what zsh completes", line, run("zsh", "-f", os.path.join(ROOT, "bin", "release", "complete.zsh"), prefix, folder, words).strip())
 

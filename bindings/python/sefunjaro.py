@@ -676,7 +676,7 @@ class _Opened:
 
 class Source(_Opened):
     """A source of the tz database in any form that zic reads, as that of tzdata.zi; with `plain` one in plain form and in no other, as
-    zone_plain wrote it, which is read in less time.
+    zone plain wrote it, which is read in less time.
 
     Raises SourceError where the text has more than 16,777,216 bytes, and NoPlainForm with the first line that is refused and the cause;
     what BadLine, BadJoin and SourceError of a line say is of the plain form that is made of the text, and so is their line. With `plain`

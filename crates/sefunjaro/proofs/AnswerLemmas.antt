@@ -1,16 +1,17 @@
 -- All that a zone says of an instant, by the span in force and by the kind of a file.
-use Rattle.std.proofs.{Common.{◌≡◌, ◌∙◌, ◌≤◌, ℕ, Bool, true, false, cond, List, [], ◌∷◌, length, filter, ℤ, pos, ◌+ℤ◌, ◌*ℤ◌, ◌≤ℤ◌, ◌<ℤ◌, int_le, int_lt, to_z, of_z, FitsSigned, w64, refl, sym, ap, subst, arith}, lemmas.Int.{ints}, lemmas.List.{length-map}}
+use Rattle.std.proofs.{Common.{◌≡◌, ◌∙◌, ◌≤◌, ℕ, Bool, true, false, cond, List, [], ◌∷◌, length, filter, ℤ, pos, ◌*ℤ◌, ◌≤ℤ◌, ◌<ℤ◌, int_le, int_lt, refl, sym, ap, subst, arith}, lemmas.Int.{ints}, lemmas.List.{length-map}}
 use Rattle.std.specs.Prelude.{IfSome, Option, Some, None}
-use Rattle.basics.specs.{ComparisonLaws.{lt_le}, SignedLaws.{signed_casts}}
+use Rattle.basics.specs.{ComparisonLaws.{lt_le}}
 use Rattle.civil_base.specs.{DateTimes.{instant, local_of, offset_of}, Instants.{local_at, seconds_of}, Layout.{day_part, time_part}, RangeLaws.{offset_least, years_end}, Ranges.{is_in_years, IsInYears, IsOffset}}
 use Rattle.civil_base.specs.declared.offset_date_time.OffsetDateTime.{OffsetDateTime}
 use Rattle.zone_spans.specs.{Entries.{Entry}, declared.span.FixedTimespan.{FixedTimespan}, Schedules.{total_at}}
-use Rattle.tz_ever.specs.{Ever.{ever_span, ever_total}, EverShown.{ever_seen}, InForce.{span_at, span_by}, Unrolled.{unrolled, unrolled_end}, declared.ever_set.EverSet.{EverSet}}
+use Rattle.tz_ever.specs.{InForce.{span_at, span_by}, Recurrences.{ZoneGives, zone_span, zone_total}, Unrolled.{IsTold, told, unrolled_end}}
+use Rattle.tz_ever.specs.declared.{recurrence.Recurrence.{Recurrence}, recurrence.Recurrence.TheVariants.{Never, Later, Always}}
 use Rattle.tz_tzif.specs.{FooterForce.{FooterZone}, InForce.{kind_at, kind_in}}
 use Rattle.tz_zone.specs.{Compiles.{spans_of}, InForce.{in_force, shown_of}, SecondLaws.{IsSecond, second_is, total_is}, Sets.{schedule_of, shift_of, shifts_of, span_in, total_of_span}, SpanLaws.{total_from_cut}, Spans.{IsCut}}
 use Rattle.tz_zone.specs.declared.set.FixedTimespanSet.{FixedTimespanSet}
 use Rattle.zone_tzif_core.specs.Zones.{ZoneValue}
-use Rattle.sefunjaro.specs.{Answers.{end_second, IsAnswered}, AnswerSteps.{IsAround, IsOfSpan, IsToldBySpan}, Changes.{last_span, saving_at}, Clocks.{clock_at}, Replies.{span_on}, Zones.{given_with, spans_with, total_with}, declared.answer.Answer.{Answer}}
+use Rattle.sefunjaro.specs.{Answers.{end_second, IsAnswered}, AnswerSteps.{IsAround, IsOfSpan, IsToldBySpan}, Changes.{last_span, saving_at}, Clocks.{clock_at}, Replies.{span_on}, declared.answer.Answer.{Answer}}
 use Rattle.sefunjaro.specs.declared.answer.Around.{Around}
 use Rattle.sefunjaro.proofs.ChangeLemmas.{on_is, saving_is}
 
@@ -61,32 +62,30 @@ pub kept_kind : (value : ZoneValue) (footer : Option FooterZone) (t u : ℤ) →
 unfolding kind_at
 kept_kind value footer t u e = e
 
--- Up to the end a set of spans that lists the entries of a zone shows what the zone does.
-pub record ShowsListed (set : FixedTimespanSet) (found : Option EverSet) : Type 0 where
-  pub total : (t : ℤ) → seconds_of t <ℤ end_second → total_at (schedule_of (spans_with set found)) t ≡ total_with set found t
-  pub gives : (t : ℤ) (k : ℕ) (name : List ℕ) (saving : Bool) → seconds_of t <ℤ end_second → IsCut (shifts_of (spans_with set found)) k (seconds_of t)
-      → name ≡ (span_in (spans_with set found) k).name → saving ≡ int_lt (pos 0) (span_in (spans_with set found) k).dst_offset → given_with set found t name saving
+-- Up to the end the spans that are told of a zone show what the zone does.
+pub record ShowsListed (recurrence : Recurrence) (set : FixedTimespanSet) : Type 0 where
+  pub total : (t : ℤ) → seconds_of t <ℤ end_second → total_at (schedule_of (told recurrence set)) t ≡ zone_total recurrence set t
+  pub gives : (t : ℤ) (k : ℕ) (name : List ℕ) (saving : Bool) → seconds_of t <ℤ end_second → IsCut (shifts_of (told recurrence set)) k (seconds_of t)
+      → name ≡ (span_in (told recurrence set) k).name → saving ≡ int_lt (pos 0) (span_in (told recurrence set) k).dst_offset
+      → ZoneGives recurrence set t name saving
 
--- a zone that doesn't go on
-pub shows_itself : (set : FixedTimespanSet) → ShowsListed set None
-shows_itself set = record {
-  total = λ t early. refl;
-  gives = λ t k name saving early cut named saves. record { span = k; in_force = cut; named = named; saves = saves };
-}
-
-abbrev pub UnrolledLaw : FixedTimespanSet → Type 0
-UnrolledLaw set = (t : ℤ) → t <ℤ unrolled_end
-    → (span_at (spans_of (unrolled set)) t ≡ ever_span set t) × (total_at (schedule_of (unrolled set)) t ≡ ever_total set t)
+abbrev pub ToldLaw : Recurrence → FixedTimespanSet → Type 0
+ToldLaw recurrence set = (t : ℤ) → IsTold recurrence t
+    → (span_at (spans_of (told recurrence set)) t ≡ zone_span recurrence set t) × (total_at (schedule_of (told recurrence set)) t ≡ zone_total recurrence set t)
 
 before_end : (t : ℤ) → seconds_of t <ℤ end_second → t <ℤ unrolled_end
 before_end t early = let high = (second_is t).high in omega (arith, ints, early, high)
 
--- and one that does
-pub shows_unrolled : (set : FixedTimespanSet) (ever : EverSet) → UnrolledLaw (ever_seen ever) → ShowsListed set (Some ever)
-shows_unrolled set ever law = record {
-  total = λ t early. (law t (before_end t early)).1;
+is_told : (recurrence : Recurrence) (t : ℤ) → (recurrence ≡ Always → ⊥) → seconds_of t <ℤ end_second → IsTold recurrence t
+is_told Never t ends early = tt
+is_told Later t ends early = before_end t early
+is_told Always t ends early = absurd (ends refl)
+
+shows_listed : (recurrence : Recurrence) (set : FixedTimespanSet) → (recurrence ≡ Always → ⊥) → ToldLaw recurrence set → ShowsListed recurrence set
+shows_listed recurrence set ends law = record {
+  total = λ t early. (law t (is_told recurrence t ends early)).1;
   gives = λ t k name saving early cut named saves.
-      let span = sym (span_at_is (unrolled (ever_seen ever)) t k cut) ∙ (law t (before_end t early)).0 in record {
+      let span = sym (span_at_is (told recurrence set) t k cut) ∙ (law t (is_told recurrence t ends early)).0 in record {
         named = named ∙ ap (λ (s : FixedTimespan). s.name) span;
         saves = saves ∙ ap (λ (s : FixedTimespan). int_lt (pos 0) s.dst_offset) span;
       };
@@ -97,27 +96,27 @@ pub total_is_of : (set : FixedTimespanSet) (t : ℤ) (k : ℕ) → IsCut (shifts
 total_is_of set t k cut = total_is (schedule_of set) t ∙ total_from_cut (schedule_of set).first (schedule_of set).shifts k (seconds_of t) cut
 
 -- the answer of a span is that of the zone
-pub answered : (set : FixedTimespanSet) (found : Option EverSet) (t : ℤ) (old new : List ℕ) (result : Option Answer) → ShowsListed set found
-    → IsToldBySpan (spans_with set found) t old new result → IsAnswered (total_with set found) (given_with set found) t old new result
-answered set found t old new None shows told =
-    let is = told.0.is_around in
+by_span : (recurrence : Recurrence) (set : FixedTimespanSet) (t : ℤ) (old new : List ℕ) (result : Option Answer) → ShowsListed recurrence set
+    → IsToldBySpan (told recurrence set) t old new result → IsAnswered (zone_total recurrence set) (ZoneGives recurrence set) t old new result
+by_span recurrence set t old new None shows spanned =
+    let is = spanned.0.is_around in
     let cut = is.throughout (seconds_of t) is.begun is.lasts in
     let early = lt_le (seconds_of t) _ _ is.lasts is.early in
-    let total = sym (shows.total t early) ∙ total_is_of (spans_with set found) t told.0.around.span cut in
-    (ap (λ o. is_in_years (local_at t o)) total ∙ told.0.years, told.1)
-answered set found t old new (Some answer) shows told =
-    let is = told.is_around in let made = told.made in let around = told.around in let listed = spans_with set found in
+    let total = sym (shows.total t early) ∙ total_is_of (told recurrence set) t spanned.0.around.span cut in
+    (ap (λ o. is_in_years (local_at t o)) total ∙ spanned.0.years, spanned.1)
+by_span recurrence set t old new (Some answer) shows answered =
+    let is = answered.is_around in let made = answered.made in let around = answered.around in let listed = told recurrence set in
     let cut : (u : ℤ) → around.from ≤ℤ u → u <ℤ around.until → IsCut (shifts_of listed) around.span u = is.throughout in
     let early : (u : ℤ) → u <ℤ around.until → u <ℤ end_second = (λ u l. lt_le u around.until end_second l is.early) in
-    let totals : (u : ℤ) → around.from ≤ℤ seconds_of u → seconds_of u <ℤ around.until → total_with set found u ≡ total_of_span listed around.span =
+    let totals : (u : ℤ) → around.from ≤ℤ seconds_of u → seconds_of u <ℤ around.until → zone_total recurrence set u ≡ total_of_span listed around.span =
     (λ u low high. sym (shows.total u (early (seconds_of u) high)) ∙ total_is_of listed u around.span (cut (seconds_of u) low high)) in
     let total = totals t is.begun is.lasts in
     let low_is : (u : ℤ) → answer.from ≤ℤ u → around.from ≤ℤ u = (λ u l. subst (λ s. s ≤ℤ u) made.from l) in
     let high_is : (u : ℤ) → u <ℤ answer.until → u <ℤ around.until = (λ u l. subst (λ s. u <ℤ s) made.until l) in
     record {
-      years = ap (λ o. is_in_years (local_at t o)) total ∙ told.years;
-      offset = made.offset ∙ told.offset ∙ sym total;
-      clock = made.clock ∙ ap (λ x. clock_at (day_part x) (time_part x)) (local_by told.shown t (total_with set found t) told.instant (told.offset ∙ sym total));
+      years = ap (λ o. is_in_years (local_at t o)) total ∙ answered.years;
+      offset = made.offset ∙ answered.offset ∙ sym total;
+      clock = made.clock ∙ ap (λ x. clock_at (day_part x) (time_part x)) (local_by answered.shown t (zone_total recurrence set t) answered.instant (answered.offset ∙ sym total));
       name = (span_in listed around.span).name;
       length = made.length;
       room = made.room;
@@ -129,6 +128,11 @@ answered set found t old new (Some answer) shows told =
             (cut (seconds_of u) (low_is (seconds_of u) low) (high_is (seconds_of u) high)) refl made.is_saving,
       );
     }
+
+pub answered : (recurrence : Recurrence) (set : FixedTimespanSet) (t : ℤ) (old new : List ℕ) (result : Option Answer) → (recurrence ≡ Always → ⊥)
+    → ToldLaw recurrence set → IsToldBySpan (told recurrence set) t old new result
+    → IsAnswered (zone_total recurrence set) (ZoneGives recurrence set) t old new result
+answered recurrence set t old new result ends law is = by_span recurrence set t old new result (shows_listed recurrence set ends law) is
 
 -- and so is its saving
 saves : (set : FixedTimespanSet) (t : ℤ) (answer : Answer) (old new : List ℕ) → IsOfSpan set t answer old new

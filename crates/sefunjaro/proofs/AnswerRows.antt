@@ -1,5 +1,5 @@
 -- Worked examples: how long an answer holds. At 1970-01-01 00:00:00 UTC clocks are set ahead from offset 0 to one hour.
-use Rattle.std.{proofs.Common.{◌≡◌, cond, ℕ, ℤ, pos, negsuc, ◌≤ℤ◌, Bool, false, List, [], ◌∷◌, map, filter, int_le, int_lt, refl, ap, arith}, specs.Prelude.{None}, proofs.lemmas.Int.{ints}}
+use Rattle.std.{proofs.Common.{◌≡◌, cond, ℕ, ℤ, pos, negsuc, ◌≤ℤ◌, Bool, false, List, [], ◌∷◌, map, int_lt, refl, ap, arith}, specs.Prelude.{None}, proofs.lemmas.Int.{ints}}
 use Rattle.basics.specs.ComparisonLaws.{lt_fail}
 use Rattle.civil_base.specs.{Instants.{seconds_of}, Layout.{day_part, time_part}}
 use Rattle.tz_zone.specs.{SecondLaws.{second_is}, declared.set.FixedTimespanSet.{FixedTimespanSet}}

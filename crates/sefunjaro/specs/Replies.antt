@@ -1,10 +1,10 @@
 -- What replies see of a zone that is kept open.
-use Rattle.std.specs.Prelude.{ℤ, List, map, filter, int_le, Option}
+use Rattle.std.specs.Prelude.{ℤ, List, map, filter, int_le}
 use Rattle.zone_replies.specs.Views.{InForce, ZoneView}
 use Rattle.zone_spans.specs.{Entries.{total}, Schedules.{instants}, declared.span.FixedTimespan.{FixedTimespan}}
-use Rattle.tz_ever.specs.declared.ever_set.EverSet.{EverSet}
+use Rattle.tz_ever.specs.{Recurrences.{zone_total}, Unrolled.{told}, declared.recurrence.Recurrence.{Recurrence}}
 use Rattle.tz_zone.specs.declared.set.FixedTimespanSet.{FixedTimespanSet}
-use Rattle.sefunjaro.specs.{Changes.{last_span, window}, Zones.{last_year, spans_with, total_with}, declared.changes.Change.{Change}}
+use Rattle.sefunjaro.specs.{Changes.{last_span, window}, Zones.{last_year}, declared.changes.Change.{Change}}
 
 abbrev pub force_of : FixedTimespan → InForce
 force_of span = record { offset = total span; saving = span.dst_offset; name = span.name }
@@ -17,12 +17,12 @@ span_on set second = last_span set.first (filter (λ entry. int_le entry.0 secon
 abbrev pub differing : List Change → List ℤ
 differing changes = map (λ change. change.second) (filter (λ change. change.differs) changes)
 
--- a zone of that set, or of what goes on
-abbrev pub reply_view : FixedTimespanSet → Option EverSet → ZoneView
-reply_view set found = record {
-  total = total_with set found;
-  readings = instants (total_with set found);
-  force = λ second. force_of (span_on (spans_with set found) second);
-  changes = λ from to. differing (window (spans_with set found) from to);
-  last_year = last_year found;
+-- a zone of that set, whose changes come again or not
+abbrev pub reply_view : Recurrence → FixedTimespanSet → ZoneView
+reply_view recurrence set = record {
+  total = zone_total recurrence set;
+  readings = instants (zone_total recurrence set);
+  force = λ second. force_of (span_on (told recurrence set) second);
+  changes = λ from to. differing (window (told recurrence set) from to);
+  last_year = last_year recurrence;
 }

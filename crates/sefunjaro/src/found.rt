@@ -9,7 +9,7 @@ use crate::clock::Clock;
 use crate::gap::Gap;
 use crate::offsets::{Stretches, UNKNOWN};
 use crate::shown::is_in_years;
-use crate::zone::{OpenZone, Reading, lent_readings, source_readings, source_stretch};
+use crate::zone::{OpenZone, Reading, lent_readings};
 use civil_base::PlainDateTime;
 use tz_ever::laws;
 use tz_lookup::Stretch;
@@ -90,8 +90,33 @@ impl LocalTimes for OpenZone {
     }
 
     fn is_steady(&self) {
-        laws::holds_in_seconds();
+        laws::zone_holds_in_seconds();
     }
+}
+
+/// The readings of a zone of a source, or the change that skips a local time.
+pub(crate) fn source_readings(
+    zone: &OpenZone,
+    local: &PlainDateTime,
+    room: &mut [Reading],
+    gap: &mut Gap,
+) -> usize
+    ensures answer { AreReadings (total_in zone.now) local.now room.old room.new result gap.new }
+    ensures gap { 0 < result → gap.new ≡ gap.old }
+{
+    let count = zone.readings(local, room);
+    if count == 0 {
+        *gap = zone.gap(local);
+    }
+    count
+}
+
+/// The total of a zone of a source at a second, and seconds around it at which it is the same.
+pub(crate) fn source_stretch(zone: &OpenZone, second: i64) -> Stretch
+    requires { IsInYears (nanos_of second) }
+    ensures { IsStretch (total_in zone.now) second result }
+{
+    zone.zone.around(second)
 }
 
 impl<'a> LocalTimes for TzifTz<'a> {

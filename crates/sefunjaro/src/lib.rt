@@ -46,7 +46,7 @@ pub use posix_names::{has_posix_names, is_posix_string};
 pub use room::fill;
 pub use shown::is_in_years;
 pub use source::{OpenFault, OpenSource};
-pub use tz_ever::EverSet;
+pub use tz_ever::{Recurrence, ZoneSet};
 pub use tz_lookup::{
     AllInstants, CompactSet, CompactTz, Database, DatabaseFault, Fixed, FixedTimespanSet,
     InstantsLocal, InstantsOf, Offset, OffsetDateTimeExt, OffsetResult, PrimitiveDateTimeExt,

@@ -1,18 +1,16 @@
 //! The offsets of many seconds, by a cursor that remembers what was in force at the last one.
 ghost use Rattle.std.specs.Prelude.{◌≡◌, ◌<◌, ◌≤◌, false, IsTrue, length, pos, slice_index_or, unsigned_abs, ℤ};
 ghost use Rattle.civil_base.specs.{Instants.{nanos_of}, Ranges.{IsInYears, IsOffset}};
-ghost use Rattle.tz_ever.specs.{Ever.{ever_total}, EverShown.{ever_seen}, EverShown.{ever_in_range}};
-ghost use Rattle.tz_lookup.specs.{CompactShown.{seen}, Stretches.{IsKnown, IsStretch}};
+ghost use Rattle.tz_ever.specs.{Recurrences.{zone_total}, ZoneShown.{recurrence_of, zone_in_range, zone_set_of}};
+ghost use Rattle.tz_lookup.specs.Stretches.{IsKnown, IsStretch};
 ghost use Rattle.sefunjaro.specs.{Offsets.{offsets_of, AreInYears}, Rooms.{filled}};
 ghost use Rattle.tz_tzif.specs.{InForce.{told_total_at}, Zones.{value_of, says_of}};
-ghost use Rattle.tz_zone.specs.Sets.{schedule_of};
-ghost use Rattle.zone_spans.specs.Schedules.{total_at};
 
 use crate::room::put;
 use crate::zone::offset_at;
 use civil_base::OffsetDateTime;
-use tz_ever::{EverSet, ever_stretch};
-use tz_lookup::{CompactSet, Stretch, stretch_of};
+use tz_ever::{ZoneSet, zone_stretch};
+use tz_lookup::Stretch;
 use tz_tzif::TzifTz;
 
 /// A zone that tells what is in force at a second, and how long.
@@ -40,32 +38,18 @@ pub(crate) const UNKNOWN: Stretch = Stretch {
     offset: 0,
 };
 
-impl Stretches for CompactSet {
-    ghost total_at = { λ set. total_at (schedule_of (seen set)) };
+impl Stretches for ZoneSet {
+    ghost total_at = { λ zone. zone_total (recurrence_of zone) (zone_set_of zone) };
 
     fn around(&self, second: i64) -> Stretch {
-        stretch_of(self, second)
+        zone_stretch(self, second)
     }
 
     fn longest(&self, second: i64) -> Stretch {
-        stretch_of(self, second)
+        zone_stretch(self, second)
     }
 
-    ghost in_range = { λ set t. set.range t };
-}
-
-impl Stretches for EverSet {
-    ghost total_at = { λ set. ever_total (ever_seen set) };
-
-    fn around(&self, second: i64) -> Stretch {
-        ever_stretch(self, second)
-    }
-
-    fn longest(&self, second: i64) -> Stretch {
-        ever_stretch(self, second)
-    }
-
-    ghost in_range = { ever_in_range };
+    ghost in_range = { zone_in_range };
 }
 
 impl<'a> Stretches for TzifTz<'a> {

@@ -8,8 +8,8 @@ use crate::changes::{Change, entries_before, span_in_force_at};
 use crate::zone::OpenZone;
 use civil_base::{OffsetDateTime, PlainDateTime, UtcOffset};
 use std::alloc::{AllocError, Global};
-use tz_ever::{EverTable, EverTz};
-use tz_lookup::{AllInstants, CompactTz, FixedTimespan, InstantsOf, SpanTable};
+use tz_ever::{ZoneTable, ZoneTz};
+use tz_lookup::{AllInstants, FixedTimespan, InstantsOf, SpanTable};
 use tz_zone::offset_of;
 use zone_replies::{Force, ReplyZone};
 
@@ -116,9 +116,9 @@ fn differing_within(
 }
 
 impl ReplyZone for OpenZone {
-    ghost use Rattle.sefunjaro.specs.{Replies.{reply_view}, Zones.{ever_in, set_in}};
+    ghost use Rattle.sefunjaro.specs.{Replies.{reply_view}, Zones.{all_in, recurrence_in}};
 
-    ghost view = { λ zone. reply_view (set_in zone) (ever_in zone) };
+    ghost view = { λ zone. reply_view (recurrence_in zone) (all_in zone) };
 
     fn last_year(&self) -> i32 {
         OpenZone::last_year(self)
@@ -129,31 +129,19 @@ impl ReplyZone for OpenZone {
     }
 
     fn offset_at(&self, second: i64) -> UtcOffset {
-        match self.for_ever() {
-            Some(ever) => offset_on(&EverTable::new(ever), second),
-            None => offset_on(self.compact(), second),
-        }
+        offset_on(&ZoneTable::new(&self.zone), second)
     }
 
     fn offset_before(&self, second: i64) -> UtcOffset {
-        match self.for_ever() {
-            Some(ever) => offset_until(&EverTable::new(ever), second),
-            None => offset_until(self.compact(), second),
-        }
+        offset_until(&ZoneTable::new(&self.zone), second)
     }
 
     fn force_at(&self, alloc: Global, second: i64) -> Result<Force, AllocError> {
-        match self.for_ever() {
-            Some(ever) => force_on(alloc, &EverTable::new(ever), second),
-            None => force_on(alloc, self.compact(), second),
-        }
+        force_on(alloc, &ZoneTable::new(&self.zone), second)
     }
 
     fn force_before(&self, alloc: Global, second: i64) -> Result<Force, AllocError> {
-        match self.for_ever() {
-            Some(ever) => force_until(alloc, &EverTable::new(ever), second),
-            None => force_until(alloc, self.compact(), second),
-        }
+        force_until(alloc, &ZoneTable::new(&self.zone), second)
     }
 
     fn instants(
@@ -161,10 +149,7 @@ impl ReplyZone for OpenZone {
         alloc: Global,
         local: &PlainDateTime,
     ) -> Result<Vec<OffsetDateTime>, AllocError> {
-        match self.for_ever() {
-            Some(ever) => instants_of(alloc, &EverTz::new(ever), local),
-            None => instants_of(alloc, &CompactTz::new(self.compact()), local),
-        }
+        instants_of(alloc, &ZoneTz::new(&self.zone), local)
     }
 
     fn changes(&self, alloc: Global, from: i64, to: i64) -> Result<Vec<i64>, AllocError> {

@@ -7,8 +7,8 @@ use crate::file::FileZone;
 use crate::zone::{AnyZone, OpenZone};
 use civil_base::{Date, Time};
 use std::alloc::Global;
-use tz_ever::EverTz;
-use tz_lookup::{CompactTz, TimeZone};
+use tz_ever::ZoneTz;
+use tz_lookup::TimeZone;
 use zone_alarm::{AlarmFault, Ring, alarms};
 
 /// The rings in a zone.
@@ -72,10 +72,7 @@ impl OpenZone {
     ) -> Result<Vec<Ring>, Error>
         ensures { MatchResult result (λ found. AreRings (total_in self.now) at first days found.items) (IsAlarmCause first days) }
     {
-        match &self.for_ever {
-            Some(ever) => rings_in(alloc, &EverTz::new(ever), at, first, days),
-            None => rings_in(alloc, &CompactTz::new(self.compact()), at, first, days),
-        }
+        rings_in(alloc, &ZoneTz::new(&self.zone), at, first, days)
     }
 }
 

@@ -1,7 +1,7 @@
 //! A source that is kept open, and its names in order.
-ghost use Rattle.std.{specs.Prelude.{◌≡◌, IfErr, IfOk}, proofs.Props.{props}};
+ghost use Rattle.std.{specs.Prelude.{◌≡◌, IfErr, IfOk, IfSome}, proofs.Props.{props}};
 ghost use Rattle.sefunjaro.specs.{Zones.{GoesOnAs}, Releases.{if_some, release_text}};
-ghost use Rattle.tz_ever.specs.Opens.{IsZoneToday};
+ghost use Rattle.tz_ever.specs.{Opens.{IsZoneToday}, ZoneShown.{recurrence_of}, declared.recurrence.Recurrence.TheVariants.{Later}};
 ghost use Rattle.tz_zone.specs.Compiles.{compiled_in, IsZoneFault};
 ghost use Rattle.tz_lookup.specs.Databases.{names_of};
 ghost use Rattle.zone_table.specs.BoundedTables.{IsBoundedTable};
@@ -11,7 +11,7 @@ use crate::zone::OpenZone;
 use basics::{Items, Text};
 use std::alloc::{AllocError, Global};
 use thiserror::Error;
-use tz_ever::{EverFault, EverSet, laws};
+use tz_ever::{EverFault, ZoneSet, laws};
 use tz_lookup::{ZoneFault, compile_zone, names_in_order};
 use zone_line::LineParser;
 use zone_source::{LIMIT, SourceError, read_table, release_of};
@@ -70,7 +70,7 @@ impl OpenSource {
     ghost use Rattle.tz_zone.specs.{Compiles.{compiled_in, IsZoneFault}, Sets.{schedule_of, IsAccepted}};
     ghost use Rattle.zone_table.specs.{BoundedTables.{IsBoundedTable}, Tables.{IsTableOf}};
     ghost use Rattle.zone_source.specs.{Faults.{source_fault}, Zones.{values_of}, Releases.{release_of}};
-    ghost use Rattle.sefunjaro.specs.{Faults.{IsOpenFault, IsReadFault}, Sources.{table_in, release_in}, Zones.{ever_in, set_in, GoesOnAs, IsAsCompiled, IsOpened}, declared.source.OpenFault.TheVariants.{NoMemory}};
+    ghost use Rattle.sefunjaro.specs.{Faults.{IsOpenFault, IsReadFault}, Sources.{table_in, release_in}, Zones.{ever_in, recurrence_in, recurrence_with, set_in, GoesOnAs, IsAsCompiled, IsOpened}, declared.source.OpenFault.TheVariants.{NoMemory}};
 
     /// Opens a source from its text in plain form, and in no other.
     ///
@@ -188,6 +188,7 @@ impl OpenSource {
         ensures ok { IfOk result (IsOpened name.now (compiled_in (table_in self.now) name.now)) }
         ensures accepted { IfOk result (λ zone. IsAccepted (schedule_of (set_in zone))) }
         ensures goes_on { IfOk result (λ zone. GoesOnAs (table_in self.now) name.now (ever_in zone)) }
+        ensures recurs { IfOk result (λ zone. recurrence_in zone ≡ recurrence_with (ever_in zone)) }
         ensures as_compiled { IfOk result IsAsCompiled }
         ensures err { IfErr result (IsZoneFault (compiled_in (table_in self.now) name.now)) }
     {
@@ -202,13 +203,14 @@ impl OpenSource {
 }
 
 /// What is in force for ever in a zone that has a schedule today, if it goes on.
-fn set_for_ever(alloc: Global, table: &Table, name: &str) -> Result<Option<EverSet>, ZoneFault>
+fn set_for_ever(alloc: Global, table: &Table, name: &str) -> Result<Option<ZoneSet>, ZoneFault>
     requires table { IsBoundedTable table.now }
     requires today { IsZoneToday table.now name.now }
     ensures ok { IfOk result (GoesOnAs table.now name.now) }
+    ensures later { IfOk result (λ found. IfSome found (λ zone. recurrence_of zone ≡ Later)) }
     ensures err { IfErr result (IsZoneFault (compiled_in table.now name.now)) }
 {
-    match EverSet::carry_on(alloc, table, name) {
+    match ZoneSet::carry_on(alloc, table, name) {
         Ok(ever) => Ok(Some(ever)),
         Err(EverFault::Zone(fault)) => Err(fault),
         Err(EverFault::LaterDay) => Ok(None),

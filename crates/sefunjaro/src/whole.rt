@@ -2,7 +2,7 @@
 use crate::error::Error;
 use crate::zone::OpenZone;
 use std::alloc::Global;
-use tz_ever::EverTable;
+use tz_ever::ZoneTable;
 use zone_list::{ListFault, Listing, lines_of};
 use zone_tail::{Tail, TailFault, tail};
 use zone_tzif::{FileFault, consistent_tzif_of};
@@ -42,10 +42,7 @@ impl OpenZone {
         ensures lines { IfOk result (λ listing. listing ≡ rows (window (spans_in self.now) from to)) }
         ensures range { IsErrOf result ListFault.Range → all_have_dates (window (spans_in self.now) from to) ≡ false }
     {
-        match &self.for_ever {
-            Some(ever) => lines_of(alloc, &EverTable::new(ever), from, to),
-            None => lines_of(alloc, self.compact(), from, to),
-        }
+        lines_of(alloc, &ZoneTable::new(&self.zone), from, to)
     }
 
     /// The POSIX TZ string that carries the zone on, as [`tail`](zone_tail::tail) gives it of the zone's spans. It takes

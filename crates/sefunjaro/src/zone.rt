@@ -1,28 +1,27 @@
 //! A zone of any kind that is kept open, and what it is asked.
-ghost use Rattle.std.specs.{Prelude.{◌≡◌, ◌<◌, length, map, option_map}, List.{slice_get}};
-ghost use Rattle.civil_base.specs.{Instants.{nanos_of}, Ranges.{IsInYears}, DateTimes.{instant}};
+ghost use Rattle.std.specs.{Prelude.{◌≡◌, ◌<◌, length, map, option_map, IfOk}, List.{slice_get}};
+ghost use Rattle.civil_base.specs.DateTimes.{instant};
 ghost use Rattle.tz_tzif.specs.{InForce.{told_total_at}, Zones.{value_of, says_of}};
-ghost use Rattle.tz_lookup.specs.{Stretches.{IsStretch}, CompactShown.{seen}, InForce.{all_in_force, shown_of}};
-ghost use Rattle.sefunjaro.specs.{Answered.{AreReadings}, Gaps.{IsSkippedBy}, Asked.{reading_of, IsNamed}, Rooms.{filled}, Zones.{total_in}};
-ghost use Rattle.tz_ever.specs.{Ever.{ever_total}, EverShown.{ever_seen}};
-ghost use Rattle.tz_zone.specs.Sets.{schedule_of};
-ghost use Rattle.zone_spans.specs.Schedules.{total_at};
+ghost use Rattle.tz_lookup.specs.{CompactShown.{seen}, InForce.{all_in_force, shown_of}};
+ghost use Rattle.sefunjaro.specs.{Answered.{AreReadings}, Gaps.{IsSkippedBy}, Asked.{reading_of, IsNamed}, Rooms.{filled}};
+ghost use Rattle.tz_ever.specs.{Recurrences.{zone_total}, ZoneShown.{recurrence_of, zone_set_of}, declared.recurrence.Recurrence.TheVariants.{Always, Later, Never}};
+ghost use Rattle.tz_zone.specs.Sets.{schedule_of, IsAccepted};
 
 use crate::answer::{Answer, answer_at};
 use crate::changes::{Change, changes, next_change, saving_at};
 use crate::clock::Clock;
 use crate::file::FileZone;
-use crate::found::{FoldRule, Found, GapRule, instants_of};
+use crate::found::{FoldRule, Found, GapRule, instants_of, source_readings};
 use crate::gap::{Gap, find_gap, near_gap};
-use crate::offsets::{Stretches, offsets_at};
+use crate::offsets::offsets_at;
 use crate::room::{fill, put};
 use crate::shown::{clocks_at, texts_at};
 use civil_base::{OffsetDateTime, PlainDateTime};
 use std::alloc::{AllocError, Global};
-use tz_ever::{EverSet, EverTable, EverTz, laws};
+use tz_ever::{Recurrence, ZoneSet, ZoneTable, ZoneTz, laws};
 use tz_lookup::{
-    AllInstants, CompactFault, CompactSet, CompactTz, FixedTimespanSet, InstantsOf, Offset,
-    OffsetDateTimeExt, PrimitiveDateTimeExt, Stretch, TimeZone,
+    AllInstants, CompactFault, CompactSet, FixedTimespanSet, InstantsOf, Offset, OffsetDateTimeExt,
+    PrimitiveDateTimeExt, TimeZone,
 };
 use tz_tzif::TzifTz;
 use zone_spans::{EARLIEST_YEAR, MOST_YEARS};
@@ -55,26 +54,15 @@ fn lent_gap(zone: &TzifTz<'_>, local: &PlainDateTime) -> Gap
     }
 }
 
-/// The same of a zone that goes on for ever.
-fn ever_gap(ever: &EverSet, local: &PlainDateTime) -> Gap
-    requires { length (all_in_force (ever_total (ever_seen ever.now)) local.now) ≡ 0 }
-    ensures { IsSkippedBy (ever_total (ever_seen ever.now)) local.now result }
+/// The same of a zone that is told by its changes.
+fn zone_gap(zone: &ZoneSet, local: &PlainDateTime) -> Gap
+    requires { length (all_in_force (zone_total (recurrence_of zone.now) (zone_set_of zone.now)) local.now) ≡ 0 }
+    ensures { IsSkippedBy (zone_total (recurrence_of zone.now) (zone_set_of zone.now)) local.now result }
 {
-    laws::holds_in_seconds();
-    match near_gap(ever, local) {
+    laws::zone_holds_in_seconds();
+    match near_gap(zone, local) {
         Some(gap) => gap,
-        None => find_gap(&EverTz::new(ever), local),
-    }
-}
-
-/// The same of a set.
-fn set_gap(set: &CompactSet, local: &PlainDateTime) -> Gap
-    requires { length (all_in_force (total_at (schedule_of (seen set.now))) local.now) ≡ 0 }
-    ensures { IsSkippedBy (total_at (schedule_of (seen set.now))) local.now result }
-{
-    match near_gap(set, local) {
-        Some(gap) => gap,
-        None => find_gap(&CompactTz::new(set), local),
+        None => find_gap(&ZoneTz::new(zone), local),
     }
 }
 
@@ -301,93 +289,77 @@ impl AnyZone {
     }
 }
 
-/// The readings of a zone of a source, or the change that skips a local time.
-pub(crate) fn source_readings(
-    zone: &OpenZone,
-    local: &PlainDateTime,
-    room: &mut [Reading],
-    gap: &mut Gap,
-) -> usize
-    ensures answer { AreReadings (total_in zone.now) local.now room.old room.new result gap.new }
-    ensures gap { 0 < result → gap.new ≡ gap.old }
-{
-    let count = zone.readings(local, room);
-    if count == 0 {
-        *gap = zone.gap(local);
-    }
-    count
-}
-
-/// The total of a zone of a source at a second, and seconds around it at which it is the same.
-pub(crate) fn source_stretch(zone: &OpenZone, second: i64) -> Stretch
-    requires { IsInYears (nanos_of second) }
-    ensures { IsStretch (total_in zone.now) second result }
-{
-    match &zone.for_ever {
-        Some(ever) => ever.around(second),
-        None => zone.set.around(second),
-    }
-}
-
 /// A zone that owns all that it is asked for.
 ///
-/// Where the lines of its name go on for ever it does, in each year from -9999 to 9999; else it says what they say with their rules up to
-/// the end of 2099: [`last_year`](OpenZone::last_year) tells.
+/// Where its changes come again it says what is in force in each year from -9999 to 9999; else with its rules up to the end of 2099:
+/// [`last_year`](OpenZone::last_year) tells.
 #[derive(Debug, Drop)]
 pub struct OpenZone {
-    set: CompactSet,
-    pub(crate) for_ever: Option<EverSet>,
+    pub(crate) zone: ZoneSet,
+    to_2099: Option<CompactSet>,
+    ghost ends: { recurrence_of zone ≡ Always → ⊥ },
 }
 
 impl OpenZone {
     ghost use Rattle.std.specs.{Prelude.{◌≡◌, ◌≤ℤ◌, ◌<ℤ◌, ℤ, true, IfOk, IfSome, is_some, length, map, option_map}, List.{slice_get}};
     ghost use Rattle.civil_base.specs.{DateTimes.{instant}, Instants.{local_at}, Ranges.{is_in_years}, Instants.{seconds_of}};
+    ghost use Rattle.tz_ever.specs.{ZoneShown.{recurrence_of}, declared.recurrence.Recurrence.TheVariants.{Later}};
     ghost use Rattle.tz_zone.specs.{InForce.{all_in_force, in_force as force_at, shown_of}, Sets.{schedule_of, IsAccepted}};
     ghost use Rattle.sefunjaro.specs.{Answers.{IsAnswered, IsBetween}, Asked.{reading_of, IsNamed}, Changes.{next_after, saving_at as saving_of, window}, Found.{AreToldOf}, Gaps.{IsSkippedBy}, Offsets.{offsets_of, AreInYears}, Rooms.{filled}};
-    ghost use Rattle.sefunjaro.specs.{Shown.{AreClocks, AreTexts}, Zones.{ever_in, given_in, last_year, set_in, spans_in, total_in}};
+    ghost use Rattle.sefunjaro.specs.{Shown.{AreClocks, AreTexts}, Zones.{ever_in, given_in, last_year, recurrence_in, recurrence_with, set_in, spans_in, total_in}};
     ghost use Rattle.tz_lookup.specs.{CompactShown.{seen}, CompactZones.{compact_of}};
 
-    /// A set that can be looked up, kept compactly, with what goes on for ever.
+    /// A set that can be looked up, kept compactly, or what goes on for ever with that set beside it.
     pub(crate) fn of_set(
         alloc: Global,
         set: &FixedTimespanSet,
-        for_ever: Option<EverSet>,
+        for_ever: Option<ZoneSet>,
     ) -> Result<OpenZone, AllocError>
-        requires { IsAccepted (schedule_of set.now) }
+        requires accepted { IsAccepted (schedule_of set.now) }
+        requires later { IfSome for_ever (λ zone. recurrence_of zone ≡ Later) }
         ensures set { IfOk result (λ zone. set_in zone ≡ set.now) }
         ensures ever { IfOk result (λ zone. ever_in zone ≡ for_ever) }
+        ensures recurs { IfOk result (λ zone. recurrence_in zone ≡ recurrence_with (ever_in zone)) }
     {
-        match CompactSet::build(alloc, set) {
-            Ok(set) => Ok(OpenZone { set, for_ever }),
-            Err(CompactFault::NoMemory) => Err(AllocError),
-            Err(CompactFault::OffsetRange | CompactFault::Falling | CompactFault::Bound) =>
-                unreachable!(),
+        match for_ever {
+            Some(zone) => Ok(OpenZone {
+                zone,
+                to_2099: Some(compact_of(alloc, set)?),
+            }),
+            None => Ok(OpenZone {
+                zone: zone_of(alloc, set)?,
+                to_2099: None,
+            }),
         }
     }
 
-    /// The set that it keeps.
+    /// The set that says what is in force up to the end of 2099.
     pub(crate) fn compact(&self) -> &CompactSet
         ensures { seen result.now ≡ set_in self.now }
     {
-        &self.set
+        match &self.to_2099 {
+            Some(set) => set,
+            None => self.zone.compact(),
+        }
     }
 
-    /// The last year up to whose end it says what is in force: 9999 where it goes on for ever, and else 2099.
+    /// The last year up to whose end it says what is in force: 9999 where its changes come again, and else 2099.
     pub fn last_year(&self) -> i32
-        ensures { result ≡ last_year (ever_in self.now) }
+        ensures { result ≡ last_year (recurrence_in self.now) }
     {
-        match &self.for_ever {
-            Some(_) => 9999,
-            None => i32::from(EARLIEST_YEAR + MOST_YEARS - 1),
+        match self.zone.recurrence() {
+            Recurrence::Never => i32::from(EARLIEST_YEAR + MOST_YEARS - 1),
+            Recurrence::Later => 9999,
+            Recurrence::Always => 9999,
         }
     }
 
     /// What goes on for ever, where it does: [`tail_for_ever`](zone_tzif::tail_for_ever) gives its string.
-    pub fn for_ever(&self) -> Option<&EverSet>
-        ensures { option_map (λ ever. ever.now) result ≡ ever_in self.now }
+    pub fn for_ever(&self) -> Option<&ZoneSet>
+        ensures { option_map (λ zone. zone.now) result ≡ ever_in self.now }
     {
-        match &self.for_ever {
-            Some(ever) => Some(ever),
+        match &self.to_2099 {
+            Some(_) => Some(&self.zone),
             None => None,
         }
     }
@@ -396,10 +368,7 @@ impl OpenZone {
     pub fn offset_at(&self, at: &OffsetDateTime) -> i32
         ensures { result ≡ total_in self.now (instant at.now) }
     {
-        match &self.for_ever {
-            Some(ever) => offset_at(&EverTz::new(ever), at),
-            None => offset_at(&CompactTz::new(&self.set), at),
-        }
+        offset_at(&ZoneTz::new(&self.zone), at)
     }
 
     /// The seconds east of UTC that are in force at each of some seconds from 1970-01-01 00:00:00 UTC, in their order, as far as they fit
@@ -408,10 +377,7 @@ impl OpenZone {
         requires { AreInYears seconds.now }
         ensures { room.new ≡ filled (offsets_of (total_in self.now) seconds.now) room.old }
     {
-        match &self.for_ever {
-            Some(ever) => offsets_at(ever, seconds, room),
-            None => offsets_at(&self.set, seconds, room),
-        }
+        offsets_at(&self.zone, seconds, room)
     }
 
     /// What clocks show at each of some seconds from 1970-01-01 00:00:00 UTC, in their order, as far as it fits in the room. One that lies
@@ -423,10 +389,7 @@ impl OpenZone {
     pub fn clocks_at(&self, seconds: &[i64], room: &mut [Clock]) -> Result<(), usize>
         ensures { AreClocks (total_in self.now) seconds.now room.old room.new result }
     {
-        match &self.for_ever {
-            Some(ever) => clocks_at(ever, seconds, room),
-            None => clocks_at(&self.set, seconds, room),
-        }
+        clocks_at(&self.zone, seconds, room)
     }
 
     /// The zoned texts of some seconds from 1970-01-01 00:00:00 UTC, one after another, each with a line feed behind it, as far as they
@@ -438,10 +401,7 @@ impl OpenZone {
     pub fn texts_at(&self, seconds: &[i64], room: &mut [u8]) -> Result<usize, usize>
         ensures { AreTexts (total_in self.now) seconds.now room.old room.new result }
     {
-        match &self.for_ever {
-            Some(ever) => texts_at(ever, seconds, room),
-            None => texts_at(&self.set, seconds, room),
-        }
+        texts_at(&self.zone, seconds, room)
     }
 
     /// All that the zone says of an instant, with the seconds around it in which no entry of the zone lies, up to the end of 10501. The
@@ -452,14 +412,9 @@ impl OpenZone {
         ensures saving { IfSome result (λ answer. (answer.is_kept ≡ true) × ((u : ℤ) → answer.from ≤ℤ u → u <ℤ answer.until → saving_of (spans_in self.now) u ≡ answer.saving)) }
         ensures until { IfSome result (IsBetween (spans_in self.now) (seconds_of (instant at.now))) }
     {
-        match &self.for_ever {
-            Some(ever) => {
-                laws::unrolled_shows();
-                laws::of_each_set(ever);
-                answer_at(&EverTable::new(ever), at, room)
-            }
-            None => answer_at(&self.set, at, room),
-        }
+        laws::told_shows();
+        laws::of_each_set(&self.zone);
+        answer_at(&ZoneTable::new(&self.zone), at, room)
     }
 
     /// What is in force at an instant. The abbreviation goes into the room, as far as it fits.
@@ -467,10 +422,7 @@ impl OpenZone {
         ensures offset { result.offset ≡ total_in self.now (instant at.now) }
         ensures name { IsNamed (given_in self.now (instant at.now)) result room.old room.new }
     {
-        match &self.for_ever {
-            Some(ever) => in_force(&EverTz::new(ever), at, room),
-            None => in_force(&CompactTz::new(&self.set), at, room),
-        }
+        in_force(&ZoneTz::new(&self.zone), at, room)
     }
 
     /// The saving that is in force at a second from 1970-01-01 00:00:00 UTC, in seconds: what the clocks are set ahead of
@@ -479,10 +431,7 @@ impl OpenZone {
     pub fn saving_at(&self, second: i64) -> i64
         ensures { result ≡ saving_of (spans_in self.now) second }
     {
-        match &self.for_ever {
-            Some(ever) => saving_at(&EverTable::new(ever), second),
-            None => saving_at(&self.set, second),
-        }
+        saving_at(&ZoneTable::new(&self.zone), second)
     }
 
     /// The first change after a second from 1970-01-01 00:00:00 UTC, if there is one. Those of a zone that goes on for ever are told
@@ -490,10 +439,7 @@ impl OpenZone {
     pub fn next_change(&self, second: i64) -> Option<Change>
         ensures { result ≡ next_after (spans_in self.now) second }
     {
-        match &self.for_ever {
-            Some(ever) => next_change(&EverTable::new(ever), second),
-            None => next_change(&self.set, second),
-        }
+        next_change(&ZoneTable::new(&self.zone), second)
     }
 
     /// The changes from a second on and before another, by time, as far as they fit in the room, and how many there are. Those of a
@@ -502,10 +448,7 @@ impl OpenZone {
         ensures room { room.new ≡ filled (window (spans_in self.now) from to) room.old }
         ensures count { result ≡ length (window (spans_in self.now) from to) }
     {
-        match &self.for_ever {
-            Some(ever) => changes(&EverTable::new(ever), from, to, room),
-            None => changes(&self.set, from, to, room),
-        }
+        changes(&ZoneTable::new(&self.zone), from, to, room)
     }
 
     /// The instant at the offset in force. There is none exactly where the local date lies outside the years -9999 to 9999.
@@ -513,10 +456,7 @@ impl OpenZone {
         ensures shown { IfSome result (λ value. shown_of value ≡ force_at (total_in self.now) (instant at.now)) }
         ensures years { is_some result ≡ is_in_years (local_at (instant at.now) (total_in self.now (instant at.now))) }
     {
-        match &self.for_ever {
-            Some(ever) => at.to_timezone(&EverTz::new(ever)),
-            None => at.to_timezone(&CompactTz::new(&self.set)),
-        }
+        at.to_timezone(&ZoneTz::new(&self.zone))
     }
 
     /// All instants at which clocks show a local time, by time, as far as they fit in the room, and how many there are.
@@ -524,10 +464,7 @@ impl OpenZone {
         ensures room { room.new ≡ filled (map reading_of (all_in_force (total_in self.now) local.now)) room.old }
         ensures count { result ≡ length (all_in_force (total_in self.now) local.now) }
     {
-        match &self.for_ever {
-            Some(ever) => readings(&EverTz::new(ever), local, room),
-            None => readings(&CompactTz::new(&self.set), local, room),
-        }
+        readings(&ZoneTz::new(&self.zone), local, room)
     }
 
     /// One instant of each of some local times, in their order, as far as they fit in the room, by the rules.
@@ -552,20 +489,14 @@ impl OpenZone {
         requires { length (all_in_force (total_in self.now) local.now) ≡ 0 }
         ensures { IsSkippedBy (total_in self.now) local.now result }
     {
-        match &self.for_ever {
-            Some(ever) => ever_gap(ever, local),
-            None => set_gap(&self.set, local),
-        }
+        zone_gap(&self.zone, local)
     }
 
     /// The first of the instants at which clocks show a local time, at the offset in force, or none where they skip it.
     pub fn first_reading(&self, local: &PlainDateTime) -> Option<OffsetDateTime>
         ensures { option_map shown_of result ≡ slice_get (all_in_force (total_in self.now) local.now) 0 }
     {
-        match &self.for_ever {
-            Some(ever) => first_reading(&EverTz::new(ever), local),
-            None => first_reading(&CompactTz::new(&self.set), local),
-        }
+        first_reading(&ZoneTz::new(&self.zone), local)
     }
 
     /// The ring of a daily alarm on the day and at the time of day of a local time: the first of the instants at which clocks
@@ -577,5 +508,32 @@ impl OpenZone {
             Some(first) => Some(reading_of(&first)),
             None => None,
         }
+    }
+}
+
+/// A set that can be looked up, kept compactly.
+fn compact_of(alloc: Global, set: &FixedTimespanSet) -> Result<CompactSet, AllocError>
+    requires { IsAccepted (schedule_of set.now) }
+    ensures { IfOk result (λ compact. seen compact ≡ set.now) }
+{
+    match CompactSet::build(alloc, set) {
+        Ok(compact) => Ok(compact),
+        Err(CompactFault::NoMemory) => Err(AllocError),
+        Err(CompactFault::OffsetRange | CompactFault::Falling | CompactFault::Bound) =>
+            unreachable!(),
+    }
+}
+
+/// The zone of such a set, whose changes don't come again.
+fn zone_of(alloc: Global, set: &FixedTimespanSet) -> Result<ZoneSet, AllocError>
+    requires { IsAccepted (schedule_of set.now) }
+    ensures set { IfOk result (λ zone. zone_set_of zone ≡ set.now) }
+    ensures never { IfOk result (λ zone. recurrence_of zone ≡ Never) }
+{
+    match ZoneSet::build(alloc, set, Recurrence::Never) {
+        Ok(zone) => Ok(zone),
+        Err(CompactFault::NoMemory) => Err(AllocError),
+        Err(CompactFault::OffsetRange | CompactFault::Falling | CompactFault::Bound) =>
+            unreachable!(),
     }
 }

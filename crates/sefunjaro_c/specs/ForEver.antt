@@ -1,6 +1,6 @@
 -- The string that carries a zone on for ever, and the zone's file with it; and why there is none, in numbers.
 use Rattle.std.specs.Prelude.{◌≡◌, ◌⊎◌, ℕ, ℤ, Bool, true, List, length, Option, Some, None}
-use Rattle.tz_ever.specs.{Ever.{ever_total}, EverShown.{ever_seen}, declared.ever_set.EverSet.{EverSet}}
+use Rattle.tz_ever.specs.{Ever.{ever_total}, ZoneShown.{zone_set_of}, declared.zone_set.ZoneSet.{ZoneSet}}
 use Rattle.tz_tzif.specs.{FooterForce.{FooterZone}, Faults.{SaysInFooter}, InForce.{told_total_at}}
 use Rattle.tz_posix.specs.{Spells.{Spells}, Values.{TzValue}}
 use Rattle.zone_tzif.specs.{Tails.{IsFaultForEver, IsTailForEver}, declared.outcome.EverTailFault.{EverTailFault}, EverFiles.{IsEverFile, IsEverFileFault, IsInReach}, declared.ever.EverFileFault.{EverFileFault}, declared.file.FileFault.{FileFault}}
@@ -30,22 +30,22 @@ pub record IsPosix (text : List ℕ) (is_posix : Bool) : Type 0 where
   pub told : (value : TzValue) → Spells text value → is_posix ≡ is_posix_string value
 
 -- the string that carries the zone on for ever stands in the room, as far as it fits, and its length is told
-pub record IsEverTailIn (ever : EverSet) (old new : List ℕ) (whole : ℕ) (is_posix : Bool) : Type 0 where
+pub record IsEverTailIn (ever : ZoneSet) (old new : List ℕ) (whole : ℕ) (is_posix : Bool) : Type 0 where
   pub from : Option ℤ
   pub text : List ℕ
-  pub tail : IsTailForEver (ever_seen ever) from text
+  pub tail : IsTailForEver (zone_set_of ever) from text
   pub room : new ≡ filled text old
   pub length : whole ≡ length text
   pub posix : IsPosix text is_posix
 
 -- why there is none; want of memory comes only where it is none of the first three causes
-pub record IsNoEverTail (ever : EverSet) (fault : Fault) : Type 0 where
+pub record IsNoEverTail (ever : ZoneSet) (fault : Fault) : Type 0 where
   pub why : EverTailFault
-  pub holds : IsFaultForEver (ever_seen ever) why
+  pub holds : IsFaultForEver (zone_set_of ever) why
   pub told : fault ≡ ever_tail_told why
 
 -- it is told, or why there is none
-abbrev pub IsEverTailTold : Option EverSet → List ℕ → List ℕ → ℕ → Bool → Fault → Type 0
+abbrev pub IsEverTailTold : Option ZoneSet → List ℕ → List ℕ → ℕ → Bool → Fault → Type 0
 IsEverTailTold None old new whole is_posix fault = (fault ≡ rules_end) × (new ≡ old)
 IsEverTailTold (Some ever) old new whole is_posix fault =
     ((fault ≡ plain done) × IsEverTailIn ever old new whole is_posix) ⊎ (IsNoEverTail ever fault × (new ≡ old))
@@ -65,22 +65,22 @@ ever_told (ever_fault.File cause) = ever_file_told cause
 
 -- The zone's file for ever stands in the room, as far as it fits, and its length is told. Whatever is read from it shows, with its footer,
 -- what the zone shows, up to the end of the year 9999.
-pub record IsEverFileIn (ever : EverSet) (old new : List ℕ) (whole : ℕ) : Type 0 where
+pub record IsEverFileIn (ever : ZoneSet) (old new : List ℕ) (whole : ℕ) : Type 0 where
   pub bytes : List ℕ
-  pub file : IsEverFile (ever_seen ever) bytes
+  pub file : IsEverFile (zone_set_of ever) bytes
   pub room : new ≡ filled bytes old
   pub length : whole ≡ length bytes
   pub totals : (zone : ZoneValue) (footer : Option FooterZone) (t : ℤ) → Denotes bytes zone → SaysInFooter zone.footer footer → IsInReach footer t
-      → told_total_at zone footer t ≡ ever_total (ever_seen ever) t
+      → told_total_at zone footer t ≡ ever_total (zone_set_of ever) t
 
 -- why there is none
-pub record IsNoEverFile (ever : EverSet) (fault : Fault) : Type 0 where
+pub record IsNoEverFile (ever : ZoneSet) (fault : Fault) : Type 0 where
   pub why : EverFileFault
-  pub holds : IsEverFileFault (ever_seen ever) why
+  pub holds : IsEverFileFault (zone_set_of ever) why
   pub told : fault ≡ ever_told why
 
 -- it is told, or why there is none
-abbrev pub IsEverFileTold : Option EverSet → List ℕ → List ℕ → ℕ → Fault → Type 0
+abbrev pub IsEverFileTold : Option ZoneSet → List ℕ → List ℕ → ℕ → Fault → Type 0
 IsEverFileTold None old new whole fault = (fault ≡ rules_end) × (new ≡ old)
 IsEverFileTold (Some ever) old new whole fault =
     ((fault ≡ plain done) × IsEverFileIn ever old new whole) ⊎ (IsNoEverFile ever fault × (new ≡ old))

@@ -2,7 +2,7 @@
 ghost use Rattle.std.specs.Prelude.{◌≡◌};
 ghost use Rattle.sefunjaro_c.specs.{Answers.{Where}, Changes.{AreChanges, IsFound, IsRing}, Times.{is_instant}, Opened.{StaysLent}};
 ghost use Rattle.sefunjaro_handles.specs.{Held.{OfKept, OfZone, OnZone}, Statuses.{IfRefused}};
-ghost use Rattle.sefunjaro.specs.{Changes.{next_after, saving_at}, Zones.{ever_in, last_year, spans_in}};
+ghost use Rattle.sefunjaro.specs.{Changes.{next_after, saving_at}, Zones.{last_year, recurrence_in, spans_in}};
 
 use crate::fault::{DONE, NONE_THERE, NOT_KEPT, NOT_OPEN, OUT_OF_RANGE};
 use crate::zones::instant_of;
@@ -172,7 +172,7 @@ fn ring_of(opened: &Opened, clock: &Clock, ring: &mut Reading) -> u32
 pub extern "C" fn sefunjaro_years_by(zone: &mut View, year: &mut i32) -> u32
     ensures lent { StaysLent zone.old zone.new }
     ensures answer { OnZone zone.old.part.opened result (year.new ≡ year.old)
-        (λ held. OfKept held result (year.new ≡ year.old) (λ zone. (result ≡ 0) × (year.new ≡ last_year (ever_in zone)))) }
+        (λ held. OfKept held result (year.new ≡ year.old) (λ zone. (result ≡ 0) × (year.new ≡ last_year (recurrence_in zone)))) }
     ensures kept { IfRefused result (year.new ≡ year.old) }
 {
     let Some(reading) = zone.take() else {
@@ -185,7 +185,7 @@ pub extern "C" fn sefunjaro_years_by(zone: &mut View, year: &mut i32) -> u32
 
 fn last_year(opened: &Opened, year: &mut i32) -> u32
     ensures answer { OfZone opened.now result (year.new ≡ year.old)
-        (λ held. OfKept held result (year.new ≡ year.old) (λ zone. (result ≡ 0) × (year.new ≡ last_year (ever_in zone)))) }
+        (λ held. OfKept held result (year.new ≡ year.old) (λ zone. (result ≡ 0) × (year.new ≡ last_year (recurrence_in zone)))) }
     ensures kept { IfRefused result (year.new ≡ year.old) }
 {
     let Opened::Zone(zone) = opened else {

@@ -7,7 +7,7 @@ ghost use Rattle.sefunjaro_handles.specs.{Held.{OfKept, OfZone, OnZone}, Statuse
 use crate::fault::{DONE, Fault, NO_MEMORY, NOT_KEPT, NOT_OPEN, plain_fault};
 use crate::whole::none_for;
 use sefunjaro::{
-    AnyZone, EverFileFault, EverSet, EverTailFault, OpenZone, fill, is_posix_string, tail_for_ever,
+    AnyZone, EverFileFault, EverTailFault, OpenZone, ZoneSet, fill, is_posix_string, tail_for_ever,
     tzif_for_ever,
 };
 use sefunjaro_handles::{Opened, View};
@@ -79,7 +79,7 @@ fn ever_tail_of_zone(
 
 fn ever_tail_of(
     alloc: Global,
-    ever: &EverSet,
+    ever: &ZoneSet,
     text: &mut [u8],
     whole: &mut usize,
     is_posix: &mut bool,
@@ -159,7 +159,7 @@ fn ever_file_of_zone(alloc: Global, zone: &OpenZone, file: &mut [u8], whole: &mu
     }
 }
 
-fn ever_file_of(alloc: Global, ever: &EverSet, file: &mut [u8], whole: &mut usize) -> Fault
+fn ever_file_of(alloc: Global, ever: &ZoneSet, file: &mut [u8], whole: &mut usize) -> Fault
     ensures answer { IsEverFileTold (Some ever.now) file.old file.new whole.new result }
     ensures kept { IfRefused result.status ((file.new ≡ file.old) × (whole.new ≡ whole.old)) }
 {

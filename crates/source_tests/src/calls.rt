@@ -12,7 +12,7 @@ use std::alloc::Global;
 use std::marker::Brand;
 use std::process::Abort;
 use std::sync::ledger::{Blank, Ledger};
-use tz_ever::{EverFault, EverSet, EverTz};
+use tz_ever::{EverFault, Recurrence, ZoneSet, ZoneTz};
 use tz_lookup::{
     CompactTz, Database, FixedTimespanSet, Offset, OffsetDateTimeExt, OffsetResult,
     PrimitiveDateTimeExt, Steps, TimeZone, Tz,
@@ -24,7 +24,8 @@ use zone_list::list_lines;
 use zone_spans::TableTransitions;
 use zone_table::Table;
 use zone_tail::laws::both_offsets;
-use zone_tzif::{from_set, tail_for_ever};
+use zone_tzif::{EverTailFault, from_set, tail_for_ever, tzif_for_ever};
+use zone_tzif_core::{ZoneFile, read_file};
 use zone_uses::{Moved, next_change};
 use zone_values::{DaySpec, Month, Weekday, Year};
 
@@ -266,9 +267,9 @@ fn offset_for_ever(
 ) -> Result<i64, EverFault>
     requires { IsBoundedTable table.now }
 {
-    match EverSet::open(alloc, table, name) {
+    match ZoneSet::open(alloc, table, name) {
         Ok(ever) => {
-            let offset = EverTz::new(&ever).get_offset_utc(at).to_utc();
+            let offset = ZoneTz::new(&ever).get_offset_utc(at).to_utc();
             Ok(i64::from(offset.whole_seconds()))
         }
         Err(fault) => Err(fault),
@@ -333,11 +334,22 @@ fn has_spans(alloc: Global, table: &Table) -> bool
     }
 }
 
+/// What is opened to 2099 doesn't come again.
+fn ends(alloc: Global, table: &Table) -> bool
+    requires { IsBoundedTable table.now }
+{
+    match ZoneSet::open_to_2099(alloc, table, "Made/Still") {
+        Ok(zone) => zone.recurrence() == Recurrence::Never,
+        Err(_) => false,
+    }
+}
+
 #[test]
 fn zones_are_opened_for_ever_or_refused(rt: HostRuntime) {
     let table = table_of(&rt, rt.alloc(), FOR_EVER);
     expect_given(&rt, rt.alloc(), &table);
     holds(&rt, "spans", has_spans(rt.alloc(), &table));
+    holds(&rt, "an end", ends(rt.alloc(), &table));
 }
 
 /// The rules of Ireland, whose saving lies below 0.
@@ -347,12 +359,12 @@ Rule E 1996 max - Oct lastSun 1:00u -1:00 -
 Zone A 1:00 E IST/GMT
 ";
 
-fn ireland(rt: &impl Abort, alloc: Global) -> EverSet {
-    EverSet::open(alloc, &table_of(rt, alloc, IRELAND), "A").expect(rt, "not opened")
+fn ireland(rt: &impl Abort, alloc: Global) -> ZoneSet {
+    ZoneSet::open(alloc, &table_of(rt, alloc, IRELAND), "A").expect(rt, "not opened")
 }
 
 /// The footer that `zic` writes of them.
-fn expect_footer(rt: &impl Abort, alloc: Global, ever: &EverSet) {
+fn expect_footer(rt: &impl Abort, alloc: Global, ever: &ZoneSet) {
     let tail = tail_for_ever(alloc, ever).expect(rt, "no footer");
     reads(rt, tail.text.as_str(), "IST-1GMT0,M10.5.0,M3.5.0/1");
 }
@@ -360,4 +372,41 @@ fn expect_footer(rt: &impl Abort, alloc: Global, ever: &EverSet) {
 #[test]
 fn a_footer_carries_a_zone_on_for_ever(rt: HostRuntime) {
     expect_footer(&rt, rt.alloc(), &ireland(&rt, rt.alloc()));
+}
+
+/// Winter time has two abbreviations, by the day on which it begins, and in the year 2102 the later one; and a zone whose saving is for
+/// good.
+const UNSAID: &[u8] = b"\
+Rule N 2000 max - Mar lastSun 1:00 1:00 D
+Rule N 2000 max - Oct Sun<=29 2:00 0 S
+Rule N 2000 max - Oct 29 2:00 0 T
+Zone A 0:00 N X%sT
+Zone B 1:00 - LMT 1990
+ 1:00 1:00 XST
+";
+
+fn unsaid(rt: &impl Abort, alloc: Global, name: &str) -> ZoneSet {
+    ZoneSet::open(alloc, &table_of(rt, alloc, UNSAID), name).expect(rt, "not opened")
+}
+
+/// No footer says both abbreviations.
+fn has_no_rule(alloc: Global, ever: &ZoneSet) -> bool {
+    matches!(tail_for_ever(alloc, ever), Err(EverTailFault::NoRule))
+}
+
+/// The file has daylight saving time from its last change on, and no footer that would say otherwise.
+fn is_saved_for_good(file: &ZoneFile) -> bool {
+    file.change_count() == 1 && file.kind_at(0).is_dst && file.footer().is_empty()
+}
+
+#[test]
+fn what_no_footer_says_has_none(rt: HostRuntime) {
+    holds(
+        &rt,
+        "a footer of one abbreviation",
+        has_no_rule(rt.alloc(), &unsaid(&rt, rt.alloc(), "A")),
+    );
+    let bytes = tzif_for_ever(rt.alloc(), &unsaid(&rt, rt.alloc(), "B")).expect(&rt, "no file");
+    let file = read_file(rt.alloc(), &bytes).expect(&rt, "not read");
+    holds(&rt, "a footer, or no saving", is_saved_for_good(&file));
 }

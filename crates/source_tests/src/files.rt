@@ -18,11 +18,8 @@ TZif2\0\0\0\0\0\0\0\0\0\0\0\0\0\0\0\0\0\0\0\0\0\0\0\0\0\0\0\0\0\0\0\0\0\0\x01\0\
 const COUNTS: &[u8] = b"\0\0\0\0\0\0\0\0\0\0\0\0\0\0\0\xba\0\0\0\x02\0\0\0\x08";
 
 /// What follows its times and their kinds: -5:00 of EST and -4:00 of EDT, their names, and the string.
-const END: &[u8] =
+pub(crate) const END: &[u8] =
     b"\xff\xff\xb9\xb0\0\0\xff\xff\xc7\xc0\x01\x04EST\0EDT\0\nEST5EDT,M3.2.0,M11.1.0\n";
-
-/// The counts of its second header for ever: the 190 times up to 2101.
-const EVER_COUNTS: &[u8] = b"\0\0\0\0\0\0\0\0\0\0\0\0\0\0\0\xbe\0\0\0\x02\0\0\0\x08";
 
 /// What the program writes for a zone of a source.
 fn written(
@@ -62,22 +59,10 @@ fn expect_new_york(rt: &impl Abort, alloc: Global, file: &[u8]) {
     }
 }
 
-/// Whether an archive has New York's file for ever.
-fn is_archive(archive: &[u8]) -> bool {
-    match archive.get(512..2361) {
-        Some(file) => {
-            (archive.len() == 3584) & (file.get(71..95) == Some(EVER_COUNTS)) & file.ends_with(END)
-        }
-        None => false,
-    }
-}
-
 /// Asserts what is written of New York.
 fn expect_written(rt: &impl Abort, alloc: Global, parser: &LineParser) {
     let outcome = written(rt, alloc, parser, "tzif zones America/New_York", NEW_YORK);
     expect_new_york(rt, alloc, outcome.sink.taken());
-    let outcome = written(rt, alloc, parser, "tree --for-ever zones", NEW_YORK);
-    holds(rt, "archive", is_archive(outcome.sink.taken()));
 }
 
 /// Asserts the bytes of a file of one offset.

@@ -6,8 +6,9 @@ use crate::rows::due_of;
 use civil_base::{OffsetDateTime, PlainDateTime, read_local};
 use std::alloc::Global;
 use std::process::Abort;
-use tz_tzif::{Footer, TzifOwner, TzifTz};
-use tz_zone::TimeZone;
+use tz_ever::Recurrence;
+use tz_tzif::{FileSpans, Footer, TzifOwner, TzifTz, spans_of};
+use tz_zone::{TimeZone, Tz};
 use zone_tzif_core::{ZoneFile, read_file};
 
 /// A footer and, after `|`, seconds from 1970-01-01 00:00:00 UTC, each with the offset in seconds, 1 for daylight saving time and 0 for
@@ -73,7 +74,7 @@ const HELD: &str =
     "-2717650801 -17762 0 LMT;-2717650800 -18000 0 EST;1173596399 -18000 0 EST;1173596400 -14400 1 EDT;5695977600 -14400 1 EDT";
 
 /// Whether the zone has in force at a second what is said of it.
-fn has_in_force(rt: &impl Abort, tz: &TzifTz<'_>, row: &str) -> bool {
+fn has_in_force<T: TimeZone>(rt: &impl Abort, tz: &T, row: &str) -> bool {
     let due = due_of(rt, row);
     due.is(&tz.get_offset_utc(&at(rt, due.second)))
 }
@@ -114,6 +115,27 @@ fn expect_owner(rt: &impl Abort, alloc: Global, zone: ZoneFile) {
     match TzifOwner::new(alloc, zone) {
         Ok(owner) => expect_new_york(rt, &owner.lend("America/New_York")),
         Err(_) => panic!(rt; "refused"),
+    }
+}
+
+/// Asserts that its spans put the same in force, and that those of 400 years come again.
+fn expect_spans(rt: &impl Abort, spans: &FileSpans) {
+    holds(rt, "again", spans.recurrence == Recurrence::Later);
+    match Tz::new(&spans.set) {
+        Ok(tz) => {
+            for row in HELD.split(';') {
+                holds(rt, row, has_in_force(rt, &tz, row));
+            }
+        }
+        Err(_) => panic!(rt; "no zone"),
+    }
+}
+
+#[test]
+fn a_slim_file_has_spans(rt: HostRuntime) {
+    match spans_of(rt.alloc(), "America/New_York", &new_york(&rt, rt.alloc())) {
+        Ok(spans) => expect_spans(&rt, &spans),
+        Err(_) => panic!(&rt; "refused"),
     }
 }
 

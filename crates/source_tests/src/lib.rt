@@ -23,6 +23,8 @@ mod hostile;
 #[cfg(test)]
 mod lines;
 #[cfg(test)]
+mod long_runs;
+#[cfg(test)]
 mod objects;
 #[cfg(test)]
 mod opened;

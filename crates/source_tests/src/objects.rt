@@ -8,9 +8,7 @@ use zone_alarm::run_alarm;
 use zone_answers::{MemShelf, MemSink, MemSource, Status, run};
 use zone_line::LineParser;
 use zone_list::run_list;
-use zone_plain::run_plain;
 use zone_tail::run_tail;
-use zone_tree::run_tree;
 use zone_tzif::run_tzif;
 
 /// How many bytes each output takes.
@@ -96,11 +94,8 @@ fn ended(
 ) -> Status {
     match program {
         "alarm" => run_alarm(alloc, parser, words, shelf, sink),
-        "ever" => zone_ever::run(alloc, parser, words, shelf, input, sink),
         "list" => run_list(alloc, parser, words, shelf, sink),
-        "plain" => run_plain(alloc, parser, words, shelf, sink),
         "tail" => run_tail(alloc, parser, words, shelf, sink),
-        "tree" => run_tree(alloc, parser, words, shelf, sink),
         "tzif" => run_tzif(alloc, parser, words, shelf, sink),
         _ => run(alloc, parser, words, shelf, input, sink),
     }

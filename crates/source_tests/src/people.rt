@@ -7,7 +7,7 @@ use crate::checks::holds;
 use crate::runs::bytes_of;
 use std::alloc::Global;
 use std::process::Abort;
-use zone_command::run_zone;
+use zone_command::{Status, run_zone};
 use zone_outside::{MemClock, MemEnvironment, MemExchange, MemShelf, MemSink};
 use zone_serving::{AnySource, OverSource};
 
@@ -18,12 +18,27 @@ R E 1996 ma - Mar lastSu 1u 1 S;R E 1996 ma - O lastSu 1u 0 -;Z Test/Berlin 1 E 
 /// A source in plain form, in which a link leads to a link: `zic` takes the zone behind it, and `zone_answers` finds none.
 const PLAIN: &str = "Zone Test/One 1:00 - ONE;Link Test/One Test/Two;Link Test/Two Other/Three;";
 
+/// Other files, each a name and a text: an odd rule; lines of Berlin, with a link; a zone whose offset no string has; a link to nothing; a
+/// zone that is named as the release's file; no line of a source; the front of a compiled file.
+const FILES: &str = "\
+odd~R odd 1990 o - o 1 23s 1 S;
+europe~# version 2026b;R E 1981 ma - Mar lastSu 1u 1 S;R E 1996 ma - O lastSu 1u 0 -;Z Europe/Berlin 1 E CE%sT;L Europe/Berlin Arctic/Longyearbyen;
+far~Zone Far 25:00 - ABC;
+links~Zone A 0:00 - A;Link B C;
+name~Zone +VERSION 0 - A;
+nonsense~Nonsense;
+compiled~TZif2
+";
+
 /// Rows that end with status 0.
 const RUNS: &str = "\
 at|Test/Berlin|now|@0.5~~2024-10-27 02:30:00 +02:00 CEST;1970-01-01 01:00:00.5 +01:00 CET;~
 local|Test/Link|2150-07-01|12:00|--json~~{\"zone\":\"Test/Link\",\"instant\":5695956000,\"local\":\"2150-07-01 12:00:00\",\"offset\":\"+02:00\",\"abbreviation\":\"CEST\",\"saving\":3600,\"kind\":\"one\"};~
 convert|Test/Berlin|-04:30|2024-10-27 02:30|--rfc3339~~2024-10-26T20:00:00-04:30;2024-10-26T21:00:00-04:30;~
 list|Test/Berlin|@1704067200|now~~@1711846800: 2024-03-31 02:00:00 +01:00 CET to 2024-03-31 03:00:00 +02:00 CEST, saving 3600;~
+list|Test/Berlin|2150-01-01T00:00:00Z|2151-01-01T00:00:00Z~~@5687802000: 2150-03-29 02:00:00 +01:00 CET to 2150-03-29 03:00:00 +02:00 CEST, saving 3600;@5705946000: 2150-10-25 03:00:00 +02:00 CEST to 2150-10-25 02:00:00 +01:00 CET, saving 0;~
+list|Test/Berlin|9999-01-01T00:00:00Z|9999-12-31T00:00:00Z~~@253378198800: 9999-03-28 02:00:00 +01:00 CET to 9999-03-28 03:00:00 +02:00 CEST, saving 3600;@253396947600: 9999-10-31 03:00:00 +02:00 CEST to 9999-10-31 02:00:00 +01:00 CET, saving 0;~
+alarm|Test/Berlin|02:30|--from|2150-03-28|--count|2~~2150-03-28 02:30:00 +01:00 CET;2150-03-30 02:30:00 +02:00 CEST;~
 alarm|Test/Berlin|02:30|--from|2024-03-30|--count|2~~2024-03-30 02:30:00 +01:00 CET;2024-04-01 02:30:00 +02:00 CEST;~
 names|TEST/L~~Test/Link -> Test/Berlin;~
 string|Test/Link~~CET-1CEST,M3.5.0,M10.5.0/3;~
@@ -31,6 +46,8 @@ stream~at UTC @0;local Test/Berlin 2024-10-27 02:30~1970-01-01 00:00:00 +00:00 U
 stream|--plain~at Test/Berlin 1729989000000000000;local Test/Link 2150-07-01 12:00:00.000000000;at Test/Ends 4102444799999999999~2024-10-27 02:30:00.000000000 +02:00:00;2150-07-01 12:00:00.000000000 +02:00:00;2099-12-31 23:59:59.999999999 +00:00:00;~
 stream|--plain~at Test/Berlin 1729989000000000000;at Test/Berlin 1729990799999999999;at Test/Berlin 1729990800000000000;at Test/Berlin 1729990800000000001~2024-10-27 02:30:00.000000000 +02:00:00;2024-10-27 02:59:59.999999999 +02:00:00;2024-10-27 02:00:00.000000000 +01:00:00;2024-10-27 02:00:00.000000001 +01:00:00;~
 stream|--source|plain~at Other/Three @0~1970-01-01 01:00:00 +01:00 ONE;~
+plain|odd~~Rule odd 1990 only - Oct 1 23:00s 1:00 S;~
+at|Arctic/Longyearbyen|2024-10-27T00:30:00Z|@1729992600.5|@5695963200|--source|europe~~2024-10-27 02:30:00 +02:00 CEST;2024-10-27 02:30:00.5 +01:00 CET;2150-07-01 14:00:00 +02:00 CEST;~
 log|Test/Berlin|--field|2~a 1729989000 b;no;~a 2024-10-27 02:30:00 +02:00 CEST b;no;~
 --version~~zone 2.0.0 of Sefunjaro;~
 ";
@@ -52,6 +69,11 @@ stream|--plain~at Test/Ends 4102444800000000000;at UTC 0;at Test/Berlin @0;at Te
 stream|--plain|--source|plain~at Other/Three 0;at Test/Two 0~? \"Other/Three\": no zone has this name;1970-01-01 01:00:00.000000000 +01:00:00;~
 log|Nowhere~@0;~~zone: \"Nowhere\": no zone has this name;
 tree~~~zone: \"Test/Ends\": the rules of this zone end, so it doesn't go on for ever;
+tree|--source|far~~~zone: \"Far\": no string says this zone for ever: it has an offset past 24:59:59;
+tree|--to-2099|--source|links~~~zone: \"links\": line 2 of this source can't be read: this link leads to no zone;
+tree|--to-2099|--source|name~~~zone: \"+VERSION\": an archive has no place for this name;
+plain|nonsense~~~zone: \"nonsense\": line 1 of this source can't be read: its first word is none of Rule, Zone and Link;
+plain|compiled~~~zone: \"compiled\": this is a compiled file, and a source is wanted;
 ";
 
 /// Rows that end with status 1, and with status 3.
@@ -59,14 +81,18 @@ const NO_FORM: &str = "\
 at~~~zone: \"at\": words are missing behind this command;
 --epoch|--epoch|at|UTC|@0~~~zone: \"--epoch\": this option is there twice, or beside another of its kind;
 file|UTC|--json~~~zone: \"--json\": this option goes with another command;
+plain~~~zone: \"plain\": words are missing behind this command;
+plain|odd|--source|zones~~~zone: \"--source\": this option goes with another command;
+tree|zones|--to-2099~~~zone: \"zones\": this word is one too many;
 ";
 
 const UNREAD: &str = "\
 at|UTC|@0|--source|x.zi~~~zone: \"x.zi\": this file can't be read;
+plain|x.zi~~~zone: \"x.zi\": this file can't be read;
 ";
 
 /// The words between the bars of a field.
-fn words_of(rt: &impl Abort, alloc: Global, field: &str) -> Vec<String> {
+pub(crate) fn words_of(rt: &impl Abort, alloc: Global, field: &str) -> Vec<String> {
     let mut words = Vec::new(alloc);
     for word in field.split('|') {
         let word = String::from_str(alloc, word).expect(rt, "memory");
@@ -76,7 +102,7 @@ fn words_of(rt: &impl Abort, alloc: Global, field: &str) -> Vec<String> {
 }
 
 /// Adds a file of that name and text.
-fn add_file(
+pub(crate) fn add_file(
     rt: &impl Abort,
     alloc: Global,
     files: &mut Vec<(String, Vec<u8>)>,
@@ -89,11 +115,15 @@ fn add_file(
         .expect(rt, "memory");
 }
 
-/// A shelf of the files `zones` and `plain`.
+/// A shelf of the files `zones` and `plain`, and of the others.
 fn shelf_of(rt: &impl Abort, alloc: Global) -> MemShelf {
     let mut files = Vec::new(alloc);
     add_file(rt, alloc, &mut files, "zones", SOURCE);
     add_file(rt, alloc, &mut files, "plain", PLAIN);
+    for row in FILES.lines() {
+        let (name, text) = row.split_once('~').expect(rt, "no text");
+        add_file(rt, alloc, &mut files, name, text);
+    }
     MemShelf::new(files, 7, Vec::new(alloc))
 }
 
@@ -113,21 +143,34 @@ fn exchange_of(rt: &impl Abort, alloc: Global, input: Vec<u8>) -> MemExchange {
     )
 }
 
+/// Runs `zone` at half past two of a night, with an environment that names the file `zones`.
+pub(crate) fn run_of(
+    rt: &impl Abort,
+    alloc: Global,
+    words: &[String],
+    shelf: &mut MemShelf,
+    exchange: &mut MemExchange,
+    errors: &mut MemSink,
+) -> Status {
+    run_zone::<OverSource<AnySource>, _, _, _, _, _>(
+        alloc,
+        words,
+        shelf,
+        &mut MemClock::new(1_729_989_000_000_000_000, Vec::new(alloc)),
+        &mut environment_of(rt, alloc),
+        exchange,
+        errors,
+    )
+}
+
 /// Asserts the status of a run, what it wrote, and what went to standard error.
 fn expect_run(rt: &impl Abort, alloc: Global, row: &str, code: u8) {
     let mut fields = row.split('~');
     let words = words_of(rt, alloc, fields.next().expect(rt, "no words"));
     let mut exchange = exchange_of(rt, alloc, bytes_of(rt, alloc, fields.next()));
     let mut errors = MemSink::new(alloc, 1000, 7, Vec::new(alloc)).expect(rt, "memory");
-    let status = run_zone::<OverSource<AnySource>, _, _, _, _, _>(
-        alloc,
-        &words,
-        &mut shelf_of(rt, alloc),
-        &mut MemClock::new(1_729_989_000_000_000_000, Vec::new(alloc)),
-        &mut environment_of(rt, alloc),
-        &mut exchange,
-        &mut errors,
-    );
+    let mut shelf = shelf_of(rt, alloc);
+    let status = run_of(rt, alloc, &words, &mut shelf, &mut exchange, &mut errors);
     let output = bytes_of(rt, alloc, fields.next());
     let told = bytes_of(rt, alloc, fields.next());
     let is_written = has_written(&exchange, &errors, &output, &told);

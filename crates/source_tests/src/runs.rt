@@ -38,10 +38,6 @@ alarm zones America/New_York -9999-01-01 23:59:59 1~~~-9999-01-01 23:59:59.00000
 list zones America/New_York 1704067200 1735689600~~~1710054000  EDT  2024-03-10 03:00:00.000000000 -04:00:00;1730613600  EST  2024-11-03 01:00:00.000000000 -05:00:00;
 list zones America/New_York 1710054000 1730613600~~~1710054000  EDT  2024-03-10 03:00:00.000000000 -04:00:00;
 list zones America/New_York 1730613600 1710054000~~~
-ever list zones America/New_York 5680281600 5711731200~~~5686009200  EDT  2150-03-08 03:00:00.000000000 -04:00:00;5706568800  EST  2150-11-01 01:00:00.000000000 -05:00:00;
-ever list zones America/New_York 253370764800 253402300800~~~253377010800  EDT  9999-03-14 03:00:00.000000000 -04:00:00;253397570400  EST  9999-11-07 01:00:00.000000000 -05:00:00;
-ever alarm zones America/New_York 2150-03-07 02:30:00 3~~~2150-03-07 02:30:00.000000000 -05:00:00;2150-03-08 none;2150-03-09 02:30:00.000000000 -04:00:00;
-ever answers zones~~at America/New_York 5686009200000000000;~2150-03-08 03:00:00.000000000 -04:00:00;
 tail zones America/New_York~~~1173596400 EST5EDT,M3.2.0,M11.1.0;
 answers zones~Rule Spain 1918 only - Apr 15 23:00 1:00 S;Rule Spain 1918 1919 - Oct 6 24:00s 0 -;Rule Spain 1919 only - Apr 6 23:00 1:00 S;Rule Spain 1924 only - Apr 16 23:00 1:00 S;Rule Spain 1924 only - Oct 4 24:00s 0 -;Rule EU 1977 1980 - Apr Sun>=1 1:00u 1:00 S;Rule EU 1977 only - Sep lastSun 1:00u 0 -;Rule EU 1978 only - Oct 1 1:00u 0 -;Rule EU 1979 1995 - Sep lastSun 1:00u 0 -;Rule EU 1981 max - Mar lastSun 1:00u 1:00 S;Rule EU 1996 max - Oct lastSun 1:00u 0 -;Zone Europe/Madrid -0:14:44 - LMT 1901 Jan 1 0:00u; 0:00 Spain WE%sT 1940 Mar 16 23:00; 1:00 Spain CE%sT 1979; 1:00 EU CE%sT;~at Europe/Madrid -2177452800000000000;at Europe/Madrid 1720000000000000000;~1901-01-01 00:00:00.000000000 +00:00:00;2024-07-03 11:46:40.000000000 +02:00:00;
 list zones Europe/Madrid -2177452800 -1620000000~~~-2177452800  WET   1901-01-01 00:00:00.000000000 +00:00:00;-1631926800  WEST  1918-04-16 00:00:00.000000000 +01:00:00;
@@ -57,7 +53,6 @@ tail zones Lord_Howe~Rule LH 2008 max - Apr Sun>=1 2:00 0 -;Rule LH 2008 max - O
 tail zones Fixed~Zone Fixed 1:30 - TST;~~all TST-1:30;
 tail zones Edge~Zone Edge -24:59:59 - ABC;~~all ABC24:59:59;
 tail zones Fourth~Rule F 2090 max - Mar Sun>=1 2:00 1:00 D;Rule F 2090 max - Oct Sun>=22 3:00 0 S;Zone Fourth -3:30 F F%sT;~~3792375000 FST3:30FDT,M3.1.0,M10.4.0/3;
-plain zones~R odd 1990 o - o 1 23s 1 S;~~Rule odd 1990 only - Oct 1 23:00s 1:00 S;
 tail zones Both~Rule T 2099 only - Mar 25 2:00 1:00 D;Rule T 2099 only - Oct 25 2:00 0 S;Zone Both 0:00 T A%s1;~~4078087200 <AS1>0<AD1>,M3.5.3,M10.5.0;
 ";
 
@@ -107,15 +102,7 @@ answers zones~Rule R 9223372036854775807 max - Jan 1 0:00 0 -;Zone A 0:00 R A;~a
 alarm zones America/New_York 9999-12-31 00:00:00 2~Rule US 2007 max - Mar Sun>=8 2:00 1:00 D;Rule US 2007 max - Nov Sun>=1 2:00 0 S;Zone America/New_York -5:00 US E%sT;~~alarm: range;
 alarm zones No/Zone 2024-03-09 02:30:00 1~~~alarm: unknown zone;
 list zones Nowhere 0 1~~~list: unknown zone;
-ever list zones America/New_York 253402300800 269243913600~~~list: range;
-ever list zones America/New_York 0 269243913601~~~list: range;
-ever list zones Ends 0 1~Zone Ends 0:00 - A 2000;~~list: rules end;
-ever alarm zones Ends 2024-03-09 02:30:00 1~~~alarm: rules end;
-tree --for-ever zones~~~tree Ends: rules end;
 tail zones Nowhere~~~tail: unknown zone;
-plain zones~Nonsense;~~source 1: line LineType;
-tree zones~Zone A 0:00 - A;Link B C;~~tree C: link;
-tree --for-ever zones~~~tree C: link;
 alarm zones No/Zone 2024-03-09 02:30:00 1~Nonsense;~~source 1: line InvalidLineType;
 alarm zones B 2024-03-09 02:30:00 1~Zone B 0:00 Gone B;~~source 1: build UnknownRuleset;
 alarm zones B 2024-03-09 02:30:00 1~Zone B 0:00 - B 2000; 0:00 Gone B;~~alarm: schedule UnknownRuleset;
@@ -124,7 +111,6 @@ list zones A 0 999999999999~Zone A 0:00 - A 9999 Dec 31 99:00; 1:00 - B;~~list: 
 tail zones Late~Rule L 2099 only - Mar 1 0:00 1:00 D;Rule L 2099 only - Jun 1 0:00 2:00 E;Rule L 2099 only - Oct 1 0:00 0 S;Zone Late 0:00 L A%sT;~~tail: shape;
 tail zones Below~Rule N 1971 max - Oct lastSun 2:00u -1:00 -;Rule N 1981 max - Mar lastSun 1:00u 0 -;Zone Below 1:00 N IST/GMT;~~tail: shape;
 tail zones Far~Zone Far 25:00 - ABC;~~tail: range;
-tree --for-ever zones~~~tree Far: string range;
 tail zones Nameless~Rule M 2000 max - Apr 1 0:00 1:00 D;Rule M 2000 max - Oct 1 0:00 0 -;Zone Nameless 0:00 M %s;~~tail: name;
 ";
 
@@ -146,9 +132,6 @@ alarm zones U 2024-02-30 02:30:00 1~~~
 alarm zones U 2024-03-09 2:30:00 1~~~
 alarm zones U 2024-03-09 02:30:00 1 1~~~
 list zones U 0 -0~~~
-ever list zones U 0~~~
-ever zones~~~
-tree zones --for-ever~~~
 tail zones U U~~~
 ";
 

@@ -7,11 +7,11 @@ use Rattle.tz_ever.specs.InForce.{span_at, span_by}
 use Rattle.tz_zone.specs.{Compiles.{spans_of}, InForce.{IsInForce}, SecondLaws.{same_test}, Sets.{shift_of, span_in}, Spans.{IsCut}, declared.set.FixedTimespanSet.{FixedTimespanSet}}
 
 -- span k of the entries behind a first span
-abbrev numbered : FixedTimespan → FixedTimespan → List Entry → ℕ → FixedTimespan
+abbrev pub numbered : FixedTimespan → FixedTimespan → List Entry → ℕ → FixedTimespan
 numbered other first es zero = first
 numbered other first es (suc i) = (slice_index_or es i (pos 0, other)).1
 
-numbered_tail : (other first : FixedTimespan) (e : Entry) (es : List Entry) (k : ℕ)
+pub numbered_tail : (other first : FixedTimespan) (e : Entry) (es : List Entry) (k : ℕ)
     → numbered other e.1 es k ≡ numbered other first (e ∷ es) (suc k)
 numbered_tail other first e es zero = refl
 numbered_tail other first e es (suc k) = refl

@@ -12,7 +12,8 @@ use Rattle.zone_spans.specs.{Firings.{earliest, fired, year_firings, firings_of_
 use Rattle.zone_spans.specs.{declared.fault.SpanFault.{SpanFault}, declared.span.FixedTimespan.{FixedTimespan}, GoesOn.{GoesOn, dont_fall, front_of, goes_on, is_in_order, last_goes_on, last_of, turns}, Later.{firings_from, start_after}}
 use Rattle.zone_spans.specs.Settled.{is_lasting, is_settled}
 use Rattle.zone_spans.specs.declared.span.FixedTimespanSet as spans
-use Rattle.tz_ever.specs.{InForce.{span_by}, Ever.{ever_span, ever_total}, ForEver.{IsForEver, ever_years}, Seam.{brought_back, cycles_past, next_seam, seam}, Stretches.{ever_begin, ever_end}, Unrolled.{again, entries_before, entries_from, unrolled_entries}}
+use Rattle.tz_ever.specs.{InForce.{span_by}, Ever.{ever_span, ever_total}, ForEver.{IsForEver, ever_years}, Seam.{brought_back, cycles_past, next_seam, seam}, Recurrences.{brought_on, turned}, Stretches.{cycle_begin, ever_begin, ever_end, zone_begin, zone_end}, Unrolled.{again, entries_before, entries_from, repeated_entries, told, unrolled_entries}}
+use Rattle.tz_ever.specs.declared.recurrence.Recurrence.TheVariants.{Never, Later, Always}
 use Rattle.tz_lookup.specs.Stretches.{stretch_begin, stretch_end}
 use Rattle.tz_zone.specs.declared.set.FixedTimespanSet.{FixedTimespanSet}
 
@@ -23,6 +24,32 @@ brought : map brought_back (
     ) ≡ (pos 0 ∷ (seam -ℤ pos 1) ∷ seam ∷ (next_seam -ℤ pos 1) ∷ seam ∷ (seam +ℤ pos 1) ∷ (next_seam -ℤ pos 1) ∷ seam ∷ [])
 unfolding brought_back cycles_past
 brought = refl
+
+-- as -9999, 1900 and 1970 begin, just before the seam and at it, just before the next one and at it: nothing is turned; what comes later
+-- than the cycle is; and what comes before it too, to 2401-01-01, 2300-01-01, 2370-01-01 and the end of 2501
+abbrev turnings : List ℤ
+turnings =
+    (pos 0 -ℤ pos 377705116800000000000) ∷ (pos 0 -ℤ pos 2208988800000000000) ∷ pos 0 ∷ (seam -ℤ pos 1) ∷ seam ∷ (next_seam -ℤ pos 1) ∷ next_seam ∷ []
+
+turned_never : map (turned Never) turnings ≡ turnings
+unfolding turned
+turned_never = refl
+
+turned_later : map (turned Later) turnings
+    ≡ ((pos 0 -ℤ pos 377705116800000000000) ∷ (pos 0 -ℤ pos 2208988800000000000) ∷ pos 0 ∷ (seam -ℤ pos 1) ∷ seam ∷ (next_seam -ℤ pos 1) ∷ seam ∷ [])
+unfolding turned brought_back cycles_past
+turned_later = refl
+
+turned_always : map (turned Always) turnings
+    ≡ (pos 13601088000000000000 ∷ pos 10413792000000000000 ∷ pos 12622780800000000000 ∷ (next_seam -ℤ pos 1) ∷ seam ∷ (next_seam -ℤ pos 1) ∷ seam ∷ [])
+unfolding turned brought_on brought_back cycles_past
+turned_always = refl
+
+abbrev est : FixedTimespan
+est = record { utc_offset = pos 0 -ℤ pos 18000; dst_offset = pos 0; name = codes "EST" }
+
+abbrev edt : FixedTimespan
+edt = record { utc_offset = pos 0 -ℤ pos 18000; dst_offset = pos 3600; name = codes "EDT" }
 
 -- ---- the entries of a table: a second before the cycle begins and as it begins, a second before its end and at it
 abbrev change : ℤ → Entry
@@ -42,6 +69,23 @@ last_times : drop 41 unrolled_times ≡ pos 256621132800 ∷ pos 269243913599 �
 unfolding unrolled_entries entries_before entries_from again
 last_times = refl
 
+-- where they come again always, those of the cycle alone, from -10298-01-01 00:00:00 on, and before them what is in force as it begins
+abbrev repeated_times : List ℤ
+repeated_times = map (λ (e : Entry). e.0) (repeated_entries
+    (change (pos 4165516799) ∷ change (pos 4165516800) ∷ change (pos 16788297599) ∷ change (pos 16788297600) ∷ []))
+
+first_repeated : take 3 repeated_times ≡ (pos 0 -ℤ pos 387140688000) ∷ (pos 0 -ℤ pos 374517907201) ∷ (pos 0 -ℤ pos 374517907200) ∷ []
+unfolding repeated_entries entries_before entries_from again
+first_repeated = refl
+
+last_repeated : drop 102 repeated_times ≡ pos 256621132800 ∷ pos 269243913599 ∷ []
+unfolding repeated_entries entries_before entries_from again
+last_repeated = refl
+
+first_in_force : (told Always (record { name = []; first = est; others = (pos 4165516799, edt) ∷ (pos 4165516800, est) ∷ [] })).first ≡ edt
+unfolding span_by
+first_in_force = refl
+
 -- ---- seconds around one: the first cycle goes on from the years before it, no later one does, and none reaches past its end
 abbrev changed : FixedTimespanSet
 changed = record { name = []; first = (change (pos 0)).1; others = change (pos 4165516799) ∷ change (pos 4197052800) ∷ [] }
@@ -57,6 +101,15 @@ stretches_begin = refl
 stretches_end : map (ever_end changed) moments ≡ pos 4197052800 ∷ pos 16788297600 ∷ pos 16819833600 ∷ pos 29411078400 ∷ []
 unfolding ever_end stretch_end cycles_past
 stretches_end = refl
+
+-- where the cycle comes again always, none goes on from the years before: as 1702 and 2102 begin
+always_begins : map (zone_begin Always changed) ((pos 0 -ℤ pos 8457264000) ∷ pos 4165516800 ∷ []) ≡ (pos 0 -ℤ pos 8457264000) ∷ pos 4165516800 ∷ []
+unfolding cycle_begin stretch_begin cycles_past
+always_begins = refl
+
+always_ends : map (zone_end Always changed) ((pos 0 -ℤ pos 8457264000) ∷ pos 4165516800 ∷ []) ≡ (pos 0 -ℤ pos 8425728000) ∷ pos 4197052800 ∷ []
+unfolding ever_end stretch_end cycles_past
+always_ends = refl
 
 -- `Rule US 2007 max - Mar Sun>=8 2:00 1:00 D` and `Rule US 2007 max - Nov Sun>=1 2:00 0 S`
 abbrev sunday : Month → ℤ → ℤ → List ℕ → RuleInfo
@@ -78,25 +131,19 @@ rulesets name = Some (sunday March (pos 8) (pos 3600) (codes "D") ∷ sunday Nov
 abbrev york : List ZoneInfo
 york = record { offset = pos 0 -ℤ pos 18000; saving = Multiple (codes "US"); format = Placeholder (codes "E%sT"); end_time = None } ∷ []
 
-abbrev est : FixedTimespan
-est = record { utc_offset = pos 0 -ℤ pos 18000; dst_offset = pos 0; name = codes "EST" }
+abbrev told_by : Result spans.FixedTimespanSet SpanFault → spans.FixedTimespanSet
+told_by (Ok set) = set
+told_by (Err fault) = record { first = est; rest = [] }
 
-abbrev edt : FixedTimespan
-edt = record { utc_offset = pos 0 -ℤ pos 18000; dst_offset = pos 3600; name = codes "EDT" }
-
-abbrev told : Result spans.FixedTimespanSet SpanFault → spans.FixedTimespanSet
-told (Ok set) = set
-told (Err fault) = record { first = est; rest = [] }
-
-is_told : (due : Result spans.FixedTimespanSet SpanFault) → is_ok due ≡ true → due ≡ Ok (told due)
+is_told : (due : Result spans.FixedTimespanSet SpanFault) → is_ok due ≡ true → due ≡ Ok (told_by due)
 is_told (Ok set) h = refl
 is_told (Err fault) h = cc
 
 abbrev made : FixedTimespanSet
 made = record {
   name = codes "Made/York";
-  first = (told (compiled_over ever_years rulesets york)).first;
-  others = (told (compiled_over ever_years rulesets york)).rest;
+  first = (told_by (compiled_over ever_years rulesets york)).first;
+  others = (told_by (compiled_over ever_years rulesets york)).rest;
 }
 
 -- an instant in nanoseconds, by its second
@@ -147,7 +194,7 @@ unfolding is_bounded_line compiled_over schedule_fault_over leaves_year_over som
 zone = record {
   goes_on = goes;
   bounded = refl;
-  today = told (compiled rulesets york);
+  today = told_by (compiled rulesets york);
   compiles = is_told (compiled rulesets york) refl;
   range = refl;
   set_is = is_told (compiled_over ever_years rulesets york) refl;

@@ -1,9 +1,9 @@
--- An instant within 26 hours of a local time shows what it shows within 26 hours of that local time brought back.
+-- An instant within 26 hours of a local time shows what it shows within 26 hours of that local time brought back, or turned.
 use Rattle.std.proofs.Common.{◌≡◌, ℕ, zero, suc, ◌*◌, ◌≤◌, ◌⊎◌, inl, inr, ℤ, pos, ◌+ℤ◌, ◌-ℤ◌, ◌<ℤ◌, refl, sym, ap, ◌∙◌, subst, arith, Bool, List, int_lt}
 use Rattle.basics.specs.SignedLaws.{signed}
 use Rattle.civil_base.specs.{Instants.{instant_at}, RangeLaws.{offset_greatest, offset_least}, Ranges.{IsOffset}}
 use Rattle.zone_spans.specs.{Entries.{total}, Schedules.{total_at}, declared.span.FixedTimespan.{FixedTimespan}, Cycle.{instant_on}}
-use Rattle.tz_ever.{specs.{InForce.{span_at}, InForceLaws.{total_at-is}, Ever.{GivesEver, IsRepeating, ever_span, ever_total}, Seam.{IsAtSeam, brought_back, cycles_past}, SeamLaws.{ArePast, back_by, cycles_past-are}}, proofs.CutLemmas.{in_force-is}}
+use Rattle.tz_ever.{specs.{InForce.{span_at}, InForceLaws.{total_at-is}, Ever.{IsRepeating, ever_span, ever_total}, Recurrences.{RepeatsAs, ZoneGives, turned, zone_span, zone_total}, declared.recurrence.Recurrence.{Recurrence}, declared.recurrence.Recurrence.TheVariants.{Never, Later, Always}, Seam.{IsAtSeam, brought_back, cycles_past}, SeamLaws.{ArePast, back_by, cycles_past-are}}, proofs.CutLemmas.{in_force-is}, proofs.TurnLemmas.{always_is}}
 use Rattle.tz_zone.specs.{CompileLaws.{totals_same}, Compiles.{spans_of}, InForce.{GivesAt}, Sets.{schedule_of}, declared.set.FixedTimespanSet.{FixedTimespanSet}}
 
 -- ---- numbers of cycles a cycle apart at most
@@ -94,15 +94,35 @@ pub ever_total-is : (set : FixedTimespanSet) (t : ℤ) → ever_total set t ≡ 
 unfolding ever_total ever_span
 ever_total-is set t = total_is set (brought_back t)
 
-pub near_total : (set : FixedTimespanSet) (x o : ℤ) → IsRepeating set → IsOffset o
-    → total_at (schedule_of set) (instant_at (brought_back x) o) ≡ ever_total set (instant_at x o)
-near_total set x o repeats h =
-    total_is set (instant_at (brought_back x) o) ∙ ap total (near_span set x o repeats h) ∙ sym (ever_total-is set (instant_at x o))
+-- ---- turned to the years that are kept
+moved_on : (x o : ℤ) → instant_at (x +ℤ pos 391306204800000000000) o ≡ instant_at x o +ℤ pos 391306204800000000000
+moved_on x o = omega (arith, signed)
 
-pub near_gives : (set : FixedTimespanSet) (x o : ℤ) (name : List ℕ) (saving : Bool) → IsRepeating set → IsOffset o
-    → GivesAt set (instant_at (brought_back x) o) name saving → GivesEver set (instant_at x o) name saving
-near_gives set x o name saving repeats h gives =
-    let is = sym (in_force-is set gives.span (instant_at (brought_back x) o) gives.in_force) ∙ near_span set x o repeats h in
+pub turned_span : (recurrence : Recurrence) (set : FixedTimespanSet) (x o : ℤ) → RepeatsAs recurrence set → IsOffset o
+    → span_at (spans_of set) (instant_at (turned recurrence x) o) ≡ zone_span recurrence set (instant_at x o)
+unfolding zone_span turned ever_span
+turned_span Never set x o repeats h = refl
+turned_span Later set x o repeats h = near_span set x o (repeats refl) h
+turned_span Always set x o repeats h =
+    ap (λ y. span_at (spans_of set) (instant_at y o)) (always_is x)
+    ∙ near_span set (x +ℤ pos 391306204800000000000) o (repeats refl) h
+    ∙ ap (λ t. span_at (spans_of set) (brought_back t)) (moved_on x o)
+    ∙ ap (span_at (spans_of set)) (sym (always_is (instant_at x o)))
+
+pub zone_total-is : (recurrence : Recurrence) (set : FixedTimespanSet) (t : ℤ) → zone_total recurrence set t ≡ total (zone_span recurrence set t)
+unfolding zone_total zone_span
+zone_total-is recurrence set t = total_is set (turned recurrence t)
+
+pub turned_total : (recurrence : Recurrence) (set : FixedTimespanSet) (x o : ℤ) → RepeatsAs recurrence set → IsOffset o
+    → total_at (schedule_of set) (instant_at (turned recurrence x) o) ≡ zone_total recurrence set (instant_at x o)
+turned_total recurrence set x o repeats h =
+    total_is set (instant_at (turned recurrence x) o) ∙ ap total (turned_span recurrence set x o repeats h)
+    ∙ sym (zone_total-is recurrence set (instant_at x o))
+
+pub turned_gives : (recurrence : Recurrence) (set : FixedTimespanSet) (x o : ℤ) (name : List ℕ) (saving : Bool) → RepeatsAs recurrence set
+    → IsOffset o → GivesAt set (instant_at (turned recurrence x) o) name saving → ZoneGives recurrence set (instant_at x o) name saving
+turned_gives recurrence set x o name saving repeats h gives =
+    let is = sym (in_force-is set gives.span (instant_at (turned recurrence x) o) gives.in_force) ∙ turned_span recurrence set x o repeats h in
     record {
       named = gives.named ∙ ap (λ (s : FixedTimespan). s.name) is;
       saves = gives.saves ∙ ap (λ (s : FixedTimespan). int_lt (pos 0) s.dst_offset) is;

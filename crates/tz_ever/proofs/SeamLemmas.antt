@@ -1,8 +1,8 @@
 -- Days and times of day, brought back by whole cycles.
-use Rattle.std.proofs.Common.{◌≡◌, arith, ℕ, ◌+◌, ◌*◌, ◌/◌, ◌%◌, ◌<◌, ℤ, pos, ◌+ℤ◌, ◌-ℤ◌, ◌*ℤ◌, ◌≤ℤ◌, ◌<ℤ◌, int_lt, Bool, true, false, not, refl, sym, ap, ◌∙◌}
-use Rattle.basics.specs.{ComparisonLaws.{lt_from_fail, lt_from_pass, lt_pass}, SignedLaws.{signed}}
+use Rattle.std.proofs.Common.{◌≡◌, arith, ℕ, ◌+◌, ◌*◌, ◌/◌, ◌%◌, ◌<◌, ℤ, pos, ◌+ℤ◌, ◌-ℤ◌, ◌*ℤ◌, ◌≤ℤ◌, ◌<ℤ◌, int_le, int_lt, true, false, sym, ap, ◌∙◌}
+use Rattle.basics.specs.{ComparisonLaws.{le_from_pass, lt_from_fail, lt_from_pass, lt_pass}, SignedLaws.{signed}}
 use Rattle.civil_base.specs.{Clock.{nanos_per_day}, Layout.{day_part, time_part}, PartLaws.{parts-joined, time_part-inside}}
-use Rattle.tz_ever.specs.{Seam.{brought_back, cycles_past, next_seam, next_seam_day, seam_day}, SeamLaws.{ArePast, back_by, back_is, cycles_past-are}}
+use Rattle.tz_ever.specs.{Seam.{brought_back, cycles_past, next_seam, next_seam_day, seam, seam_day}, SeamLaws.{ArePast, back_by, back_is, cycles_past-are}}
 
 -- ---- days
 by_parts : (d : ℤ) (q r : ℕ) → d -ℤ seam_day ≡ pos (q * 146097 + r) → r < 146097
@@ -37,30 +37,22 @@ at_time d t h =
     ap (λ z. z +ℤ pos t) (back_by (d *ℤ pos nanos_per_day) k past) ∙ earlier (d *ℤ pos nanos_per_day) (pos t) k
     ∙ sym (back_by (d *ℤ pos nanos_per_day +ℤ pos t) k (same_cycles d t k h past))
 
-by_day : (x d : ℤ) (t : ℕ) → d *ℤ pos nanos_per_day +ℤ pos t ≡ x → t < nanos_per_day → next_seam ≤ℤ x → seam_day ≤ℤ d
-by_day x d t e h from = omega (arith, signed)
-
-pub day_begun : (x : ℤ) → next_seam ≤ℤ x → seam_day ≤ℤ day_part x
-day_begun x h = by_day x (day_part x) (time_part x) (parts-joined x) (time_part-inside x) h
-
 -- ---- the test
-past_from : (b : Bool) → not b ≡ true → b ≡ false
-past_from true h = cc
-past_from false h = refl
-
-early_from : (b : Bool) → not b ≡ false → b ≡ true
-early_from true h = refl
-early_from false h = cc
-
-from_day : (x d : ℤ) (t : ℕ) → d *ℤ pos nanos_per_day +ℤ pos t ≡ x → next_seam_day ≤ℤ d → next_seam ≤ℤ x
+from_day : (x d : ℤ) (t : ℕ) → d *ℤ pos nanos_per_day +ℤ pos t ≡ x → next_seam_day ≤ℤ d → seam ≤ℤ x
 from_day x d t e h = omega (arith, signed)
+
+from_seam_day : (x d : ℤ) (t : ℕ) → d *ℤ pos nanos_per_day +ℤ pos t ≡ x → seam_day ≤ℤ d → seam ≤ℤ x
+from_seam_day x d t e h = omega (arith, signed)
 
 before_day : (x d : ℤ) (t : ℕ) → d *ℤ pos nanos_per_day +ℤ pos t ≡ x → t < nanos_per_day → d <ℤ next_seam_day → x <ℤ next_seam
 before_day x d t e b h = omega (arith, signed)
 
-pub is_past : (x : ℤ) → not (int_lt (day_part x) next_seam_day) ≡ true → next_seam ≤ℤ x
-is_past x h = from_day x (day_part x) (time_part x) (parts-joined x) (lt_from_fail _ _ (past_from _ h))
-
-pub is_early : (x : ℤ) → not (int_lt (day_part x) next_seam_day) ≡ false → brought_back x ≡ x
+pub is_early : (x : ℤ) → int_lt (day_part x) next_seam_day ≡ true → brought_back x ≡ x
 is_early x h =
-    back_is x (lt_pass x next_seam (before_day x (day_part x) (time_part x) (parts-joined x) (time_part-inside x) (lt_from_pass _ _ (early_from _ h))))
+    back_is x (lt_pass x next_seam (before_day x (day_part x) (time_part x) (parts-joined x) (time_part-inside x) (lt_from_pass _ _ h)))
+
+pub is_late : (x : ℤ) → int_lt (day_part x) next_seam_day ≡ false → seam ≤ℤ x
+is_late x h = from_day x (day_part x) (time_part x) (parts-joined x) (lt_from_fail _ _ h)
+
+pub is_begun : (x : ℤ) → int_le seam_day (day_part x) ≡ true → seam ≤ℤ x
+is_begun x h = from_seam_day x (day_part x) (time_part x) (parts-joined x) (le_from_pass _ _ h)

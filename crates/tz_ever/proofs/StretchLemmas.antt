@@ -1,4 +1,4 @@
--- The total of a zone that goes on for ever throughout seconds of one cycle, and where they begin and end.
+-- The total of a zone throughout seconds of one cycle, and where they begin and end.
 use Rattle.std.proofs.Common.{◌≡◌, ℕ, zero, suc, ◌<◌, ◌*◌, ℤ, pos, ◌+ℤ◌, ◌-ℤ◌, ◌≤ℤ◌, ◌<ℤ◌, sym, ap, ◌∙◌, arith}
 use Rattle.std.specs.Int.{int_max, int_min}
 use Rattle.basics.specs.{ComparisonLaws.{lt_pass}, SignedLaws.{signed}}
@@ -6,7 +6,8 @@ use Rattle.civil_base.specs.Instants.{nanos_of}
 use Rattle.zone_spans.specs.Schedules.{total_at}
 use Rattle.tz_zone.specs.{Sets.{schedule_of}, declared.set.FixedTimespanSet.{FixedTimespanSet}}
 use Rattle.tz_lookup.specs.{Stretches.{IsStretch, stretch_begin, stretch_end}, declared.stretch.Stretch.{Stretch}}
-use Rattle.tz_ever.specs.{Ever.{ever_total}, Seam.{cycles_past, next_seam}, SeamLaws.{back_by, back_is, one_number}, Stretches.{begin_past, end_past, ever_begin, ever_end}, Unrolled.{next_seam_second, seam_second}}
+use Rattle.tz_ever.specs.{Ever.{ever_total}, Recurrences.{zone_total}, Seam.{brought_back, cycles_past, next_seam}, SeamLaws.{back_by, back_is, one_number}, Stretches.{begin_past, cycle_begin, end_past, ever_begin, ever_end}, Unrolled.{next_seam_second, seam_second}}
+use Rattle.tz_ever.{specs.declared.recurrence.Recurrence.TheVariants.{Always}, proofs.TurnLemmas.{always_is}}
 
 pub before_seam : (set : FixedTimespanSet) (u : ℤ) → u <ℤ next_seam_second → ever_total set (nanos_of u) ≡ total_at (schedule_of set) (nanos_of u)
 unfolding ever_total
@@ -99,3 +100,32 @@ later_end set second v end k is low high ends =
     let back : v ≡ second -ℤ pos (k * 12622780800) = omega (arith, signed, is) in
     ends ∙ ap (λ s. int_min (stretch_end zone s) next_seam_second +ℤ pos (k * 12622780800)) back
     ∙ sym (ap (λ k. end_past zone k second) (some_past second v k is low high))
+
+pub cycle_begins : (set : FixedTimespanSet) (second v begin : ℤ) (k : ℕ) → second ≡ v +ℤ pos (k * 12622780800) → seam_second ≤ℤ v
+    → v <ℤ next_seam_second → begin ≡ int_max (stretch_begin (schedule_of set) v) seam_second +ℤ pos (k * 12622780800) → begin ≡ cycle_begin set second
+unfolding cycle_begin
+cycle_begins set second v begin k is low high begins =
+    let zone = schedule_of set in
+    let back : v ≡ second -ℤ pos (k * 12622780800) = omega (arith, signed, is) in
+    begins ∙ ap (λ s. int_max (stretch_begin zone s) seam_second +ℤ pos (k * 12622780800)) back
+    ∙ sym (ap (λ k. int_max (stretch_begin zone (second -ℤ pos (k * 12622780800))) seam_second +ℤ pos (k * 12622780800)) (some_past second v k is low high))
+
+-- ---- where they come again always
+nanos_later : (u : ℤ) → nanos_of u +ℤ pos 391306204800000000000 ≡ nanos_of (u +ℤ pos 391306204800)
+nanos_later u = omega (arith, signed)
+
+always_total : (set : FixedTimespanSet) (u : ℤ) → zone_total Always set (nanos_of u) ≡ ever_total set (nanos_of (u +ℤ pos 391306204800))
+unfolding zone_total ever_total
+always_total set u = ap (total_at (schedule_of set)) (always_is (nanos_of u) ∙ ap brought_back (nanos_later u))
+
+-- a stretch of 31 cycles later, moved
+pub always_stretch : (set : FixedTimespanSet) (second v : ℤ) (found result : Stretch) → v ≡ second +ℤ pos 391306204800
+    → IsStretch (ever_total set) v found → result.from ≡ found.from -ℤ pos 391306204800 → result.until ≡ found.until -ℤ pos 391306204800
+    → result.offset ≡ found.offset → IsStretch (zone_total Always set) second result
+always_stretch set second v found result v_is is from_is until_is offset_is = record {
+  begun = omega (arith, signed, is.begun, v_is, from_is);
+  here = always_total set second ∙ ap (λ u. ever_total set (nanos_of u)) (sym v_is) ∙ is.here ∙ sym offset_is;
+  throughout = λ u low high.
+      always_total set u
+      ∙ is.throughout (u +ℤ pos 391306204800) (omega (arith, signed, low, from_is)) (omega (arith, signed, high, until_is)) ∙ sym offset_is;
+}

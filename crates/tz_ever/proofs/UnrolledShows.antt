@@ -48,7 +48,7 @@ climb_at low (e ∷ es) high (suc j) h l =
     let there = climb_at e.0 es high j h.2 (omega arith) in
     (le_le _ _ _ h.0 there.0, there.1)
 
-climb_rises : (low : ℤ) (es : List Entry) (high : ℤ) → Climb low es high → TimesDontFall (map shift_of es)
+pub climb_rises : (low : ℤ) (es : List Entry) (high : ℤ) → Climb low es high → TimesDontFall (map shift_of es)
 climb_rises low [] high h i j le l = absurd (omega arith)
 climb_rises low (e ∷ es) high h zero zero le l = le_itself _
 climb_rises low (e ∷ es) high h zero (suc j) le l = (climb_at e.0 es high j h.2 (omega arith)).0
@@ -58,27 +58,27 @@ climb_rises low (e ∷ es) high h (suc i) (suc j) le l = climb_rises e.0 es high
 is_time : (x : ℤ) → least ≤ℤ x → x <ℤ past_greatest → IsSpanTime x
 is_time x h k = (h, omega (arith, signed, k))
 
-climb_bound : (low : ℤ) (es : List Entry) (high : ℤ) → least ≤ℤ low → high ≤ℤ past_greatest → Climb low es high → AreSpanTimes (map shift_of es)
+pub climb_bound : (low : ℤ) (es : List Entry) (high : ℤ) → least ≤ℤ low → high ≤ℤ past_greatest → Climb low es high → AreSpanTimes (map shift_of es)
 climb_bound low [] high l g h k d b = absurd (omega arith)
 climb_bound low (e ∷ es) high l g h zero d b = is_time e.0 (le_le _ _ _ l h.0) (climb_higher low (e ∷ es) high past_greatest g h).1
 climb_bound low (e ∷ es) high l g h (suc k) d b = climb_bound e.0 es high (le_le _ _ _ l h.0) g h.2 k d (omega arith)
 
 -- ---- the offsets stay
-abbrev Offsets : List Entry → Type 0
+abbrev pub Offsets : List Entry → Type 0
 Offsets [] = Unit {0}
 Offsets (e ∷ es) = (is_offset (total e.1) ≡ true) × Offsets es
 
-offsets_of : (es : List Entry) → list_all (λ (s : Shift). is_offset s.1) (map shift_of es) ≡ true → Offsets es
+pub offsets_of : (es : List Entry) → list_all (λ (s : Shift). is_offset s.1) (map shift_of es) ≡ true → Offsets es
 offsets_of [] h = tt
 offsets_of (e ∷ es) h =
     let both = and_parts (is_offset (total e.1)) _ h in
     (both.0, offsets_of es both.1)
 
-tests_of : (es : List Entry) → Offsets es → list_all (λ (s : Shift). is_offset s.1) (map shift_of es) ≡ true
+pub tests_of : (es : List Entry) → Offsets es → list_all (λ (s : Shift). is_offset s.1) (map shift_of es) ≡ true
 tests_of [] h = refl
 tests_of (e ∷ es) h = ap (λ b. b && list_all (λ (s : Shift). is_offset s.1) (map shift_of es)) h.0 ∙ tests_of es h.1
 
-kept_offsets : (test : Entry → Bool) (es : List Entry) → Offsets es → Offsets (filter test es)
+pub kept_offsets : (test : Entry → Bool) (es : List Entry) → Offsets es → Offsets (filter test es)
 kept_offsets test [] h = tt
 kept_offsets test (e ∷ es) h = elim (test e) as (λ b. Offsets (cond b (e ∷ filter test es) (filter test es))) [
   | true ↦ (h.0, kept_offsets test es h.1)
@@ -93,7 +93,7 @@ later_offsets : (es : List Entry) → Offsets es → Offsets (map entry_on es)
 later_offsets [] h = tt
 later_offsets (e ∷ es) h = (h.0, later_offsets es h.1)
 
-again_offsets : (n : ℕ) (es : List Entry) → Offsets es → Offsets (again n es)
+pub again_offsets : (n : ℕ) (es : List Entry) → Offsets es → Offsets (again n es)
 unfolding again
 again_offsets zero es h = tt
 again_offsets (suc n) es h =
@@ -145,7 +145,7 @@ cycle es = entries_from seam_second (kept es)
 -- ---- what is shown
 module _ (first : FixedTimespan) (es : List Entry) (h : Climb least es past_greatest) where
   -- what is in force just before the cycle
-  abbrev begins : FixedTimespan
+  abbrev pub begins : FixedTimespan
   begins = span_by first (old es) (seam -ℤ pos 1)
 
   before_next : (u : ℤ) → u <ℤ next_seam → span_by first es u ≡ span_by first (kept es) u
@@ -161,16 +161,22 @@ module _ (first : FixedTimespan) (es : List Entry) (h : Climb least es past_grea
       ∙ ap (λ s. span_by s (cycle es) u)
       (all_come u (seam -ℤ pos 1) first least (old es) seam_second (cycle_cut es h).before (omega (arith, signed, late)) (omega (arith, signed)))
 
-  abbrev repeats : Type 0
+  abbrev pub repeats : Type 0
   repeats = span_by first es (instant_on (seam -ℤ pos 1)) ≡ span_by first es (seam -ℤ pos 1)
 
-  leaves : repeats → Leaves begins next_seam_second (cycle es)
+  pub shown_by_cycle : (u : ℤ) → (seam -ℤ pos 1) ≤ℤ u → u <ℤ next_seam → span_by first es u ≡ span_by begins (cycle es) u
+  shown_by_cycle u late early = before_next u early ∙ by_cycle u late
+
+  pub begins_is : span_by first es (seam -ℤ pos 1) ≡ begins
+  begins_is =
+      shown_by_cycle (seam -ℤ pos 1) (le_itself _) (omega (arith, signed))
+      ∙ none_come (seam -ℤ pos 1) begins seam_second (cycle es) next_seam_second (cycle_cut es h).after (omega (arith, signed))
+
+  pub leaves : repeats → Leaves begins next_seam_second (cycle es)
   leaves repeat u late =
       all_come u (next_seam -ℤ pos 1) begins seam_second (cycle es) next_seam_second (cycle_cut es h).after late (omega (arith, signed))
-      ∙ sym (by_cycle (next_seam -ℤ pos 1) (omega (arith, signed))) ∙ sym (before_next (next_seam -ℤ pos 1) (omega (arith, signed)))
-      ∙ repeat
-      ∙ before_next (seam -ℤ pos 1) (omega (arith, signed)) ∙ by_cycle (seam -ℤ pos 1) (le_itself _)
-      ∙ none_come (seam -ℤ pos 1) begins seam_second (cycle es) next_seam_second (cycle_cut es h).after (omega (arith, signed))
+      ∙ sym (shown_by_cycle (next_seam -ℤ pos 1) (omega (arith, signed)) (omega (arith, signed)))
+      ∙ repeat ∙ begins_is
 
   unrolled_is : (t : ℤ) → span_by first (unrolled_entries es) t ≡ span_by (span_by first (kept es) t) (again 20 (cycle es)) t
   unfolding unrolled_entries

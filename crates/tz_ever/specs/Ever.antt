@@ -1,5 +1,5 @@
 -- What a set of spans shows for ever, where the cycle stands for each later one.
-use Rattle.std.specs.Prelude.{◌≡◌, ℕ, Bool, List, map, ℤ, pos, int_lt}
+use Rattle.std.specs.Prelude.{◌≡◌, List, map, ℤ}
 use Rattle.civil_base.specs.{DateTimes.{at_offset, offset_of}, declared.offset_date_time.OffsetDateTime.{OffsetDateTime}}
 use Rattle.zone_spans.specs.{Schedules.{total_at}, declared.span.FixedTimespan.{FixedTimespan}, Cycle.{instant_on}}
 use Rattle.tz_ever.specs.{InForce.{span_at}, Seam.{IsAtSeam, brought_back}}
@@ -17,11 +17,6 @@ ever_span set t = span_at (spans_of set) (brought_back t)
 unfoldable pub ever_total : FixedTimespanSet → ℤ → ℤ
 ever_total set t = total_at (schedule_of set) (brought_back t)
 
--- what is in force has this abbreviation, and its saving is above 0 or not
-pub record GivesEver (set : FixedTimespanSet) (t : ℤ) (name : List ℕ) (saving : Bool) : Type 0 where
-  pub named : name ≡ (ever_span set t).name
-  pub saves : saving ≡ int_lt (pos 0) (ever_span set t).dst_offset
-
--- what is still to give of the date-times of a local time: those of the local time brought back, each at its own offset
+-- what is still to give of the date-times of a local time: those of the local time that is turned, each at its own offset
 unfoldable pub ever_left : FixedTimespanSet → ℤ → SpanCursor → List OffsetDateTime
 ever_left set local found = map (λ date. at_offset local (offset_of date)) (cursor_left set found)

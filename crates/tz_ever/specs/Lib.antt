@@ -4,8 +4,9 @@ pub mod AnyYear
 pub mod Seam
 pub mod Ever
 pub mod ForEver
-pub mod EverShown
-pub mod EverZones
+pub mod Recurrences
+pub mod ZoneShown
+pub mod Asked
 pub mod Unrolled
 pub mod Stretches
 pub mod TablesShown
@@ -13,5 +14,6 @@ pub mod Opens
 -- Laws: what a caller may use.
 pub mod InForceLaws
 pub mod SeamLaws
+pub mod RecurrenceLaws
 -- Words of private clauses.
 pub mod Places

@@ -1,11 +1,11 @@
--- The seconds around one in a zone that goes on for ever: from entry to entry, as far as its cycle reaches.
+-- The seconds around one in a zone: from entry to entry, as far as its cycle reaches.
 use Rattle.std.specs.Prelude.{ℕ, zero, suc, ◌*◌, ℤ, pos, ◌+ℤ◌, ◌-ℤ◌}
 use Rattle.std.specs.Int.{int_max, int_min}
 use Rattle.civil_base.specs.Instants.{nanos_of}
 use Rattle.zone_spans.specs.Schedules.{Schedule}
 use Rattle.tz_zone.specs.{Sets.{schedule_of}, declared.set.FixedTimespanSet.{FixedTimespanSet}}
 use Rattle.tz_lookup.specs.Stretches.{stretch_begin, stretch_end}
-use Rattle.tz_ever.specs.{Seam.{cycles_past}, Unrolled.{next_seam_second, seam_second}}
+use Rattle.tz_ever.specs.{Seam.{cycles_past}, Unrolled.{next_seam_second, seam_second}, declared.recurrence.Recurrence.{Recurrence}, declared.recurrence.Recurrence.TheVariants.{Never, Later, Always}}
 
 -- where they begin in the cycle, so many cycles past it: the cycle itself goes on from the years before
 abbrev pub begin_in_cycle : ℕ → ℤ → ℤ
@@ -27,3 +27,20 @@ ever_begin set second = begin_past (schedule_of set) (cycles_past (nanos_of seco
 
 unfoldable pub ever_end : FixedTimespanSet → ℤ → ℤ
 ever_end set second = end_past (schedule_of set) (cycles_past (nanos_of second)) second
+
+-- the same of a cycle that goes on from no years before
+unfoldable pub cycle_begin : FixedTimespanSet → ℤ → ℤ
+cycle_begin set second =
+    let cycles = cycles_past (nanos_of second) in
+    int_max (stretch_begin (schedule_of set) (second -ℤ pos (cycles * 12622780800))) seam_second +ℤ pos (cycles * 12622780800)
+
+-- of a zone: where the changes come again always, those of 31 cycles later, moved
+abbrev pub zone_begin : Recurrence → FixedTimespanSet → ℤ → ℤ
+zone_begin Never set second = stretch_begin (schedule_of set) second
+zone_begin Later set second = ever_begin set second
+zone_begin Always set second = cycle_begin set (second +ℤ pos 391306204800) -ℤ pos 391306204800
+
+abbrev pub zone_end : Recurrence → FixedTimespanSet → ℤ → ℤ
+zone_end Never set second = stretch_end (schedule_of set) second
+zone_end Later set second = ever_end set second
+zone_end Always set second = ever_end set (second +ℤ pos 391306204800) -ℤ pos 391306204800

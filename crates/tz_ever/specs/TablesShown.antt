@@ -1,7 +1,7 @@
--- The set that is seen of a table for ever.
+-- The set that is seen of a table.
 use Rattle.tz_zone.specs.declared.set.FixedTimespanSet.{FixedTimespanSet}
-use Rattle.tz_ever.specs.{EverShown.{ever_seen}, Unrolled.{unrolled}, declared.ever_table.EverTable.{EverTable}}
+use Rattle.tz_ever.specs.{ZoneShown.{recurrence_of, zone_set_of}, Unrolled.{told}, declared.table.ZoneTable.{ZoneTable}}
 
--- the set's entries up to the year 10501
-abbrev pub unrolled_of : EverTable → FixedTimespanSet
-unrolled_of table = unrolled (ever_seen table.set.now)
+-- all entries that are told of the zone
+abbrev pub table_of : ZoneTable → FixedTimespanSet
+table_of table = told (recurrence_of table.set.now) (zone_set_of table.set.now)

@@ -1,18 +1,18 @@
-//! What a zone shows for ever is what an [`EverTz`](crate::EverTz) over its spans shows, and an [`EverTable`](crate::EverTable) to the
+//! What a zone shows for ever is what an [`ZoneTz`](crate::ZoneTz) over its spans shows, and an [`ZoneTable`](crate::ZoneTable) to the
 //! year 10501.
 ghost use Rattle.std.specs.Prelude.{◌≡◌, ℕ, IsTrue, List, Some, ℤ, pos, ◌+ℤ◌, ◌<ℤ◌};
 ghost use Rattle.civil_base.specs.Instants.{nanos_of, seconds_of};
 ghost use Rattle.zone_table.specs.declared.{table.Table.{Table}, zone.ZoneInfo.{ZoneInfo}};
 ghost use Rattle.zone_spans.specs.{Lines.{Rulesets}, Schedules.{is_in_offset_range, total_at}, Entries.{Entry}};
-ghost use Rattle.tz_ever.specs.{AnyYear.{span_for_ever, total_for_ever}, Opens.{IsFoundForEver, IsZoneToday}, Ever.{IsRepeating, ever_span, ever_total}, EverShown.{ever_seen}, ForEver.{IsForEver}, InForce.{span_at}};
-ghost use Rattle.tz_ever.specs.Unrolled.{unrolled, unrolled_end, IsLastThere};
+ghost use Rattle.tz_ever.specs.{AnyYear.{span_for_ever, total_for_ever}, Opens.{IsFoundForEver, IsZoneToday}, Ever.{IsRepeating, ever_span, ever_total}, Recurrences.{RepeatsAs}, ZoneShown.{recurrence_of, zone_set_of}, ForEver.{IsForEver}, InForce.{span_at}};
+ghost use Rattle.tz_ever.specs.{Recurrences.{zone_span, zone_total}, Unrolled.{told, unrolled, unrolled_end, IsLastThere, IsTold}, declared.recurrence.Recurrence.{Recurrence}};
 ghost use Rattle.tz_zone.specs.{Compiles.{IsCompiledAs, compiled_in, spans_of}, InForce.{all_in_force}, Sets.{IsAccepted, schedule_of}, declared.set.FixedTimespanSet.{FixedTimespanSet}};
 
 use crate::cycle::for_ever;
-use crate::ever_set::EverSet;
+use crate::zone_set::ZoneSet;
 
 /// Where a zone goes on, the set of its spans over 704 years shows at the seam what it shows a cycle later, as
-/// [`EverSet::build`](crate::EverSet::build) asks.
+/// [`ZoneSet::build`](crate::ZoneSet::build) asks.
 pub fn repeats_at_the_seam()
     ensures { (rulesets : Rulesets) (infos : List ZoneInfo) (set : FixedTimespanSet) → IsForEver rulesets infos set → IsRepeating set }
 {
@@ -74,10 +74,28 @@ pub fn unrolled_reads()
     unrolled_shows();
 }
 
-/// What each [`EverSet`] is built from can be looked up, and shows at the seam what it shows a cycle later.
-pub fn of_each_set(set: &EverSet)
-    ensures accepted { IsAccepted (schedule_of (ever_seen set.now)) }
-    ensures repeats { IsRepeating (ever_seen set.now) }
+/// All entries that are told of a zone can be looked up too.
+pub fn told_is_accepted()
+    ensures { (recurrence : Recurrence) (set : FixedTimespanSet) → IsAccepted (schedule_of set) → IsAccepted (schedule_of (told recurrence set)) }
+{
+    unrolled_is_accepted();
+}
+
+/// From the year -10298 to the end of the year 10501, where its changes come again, and else at each instant, they show what the zone does.
+pub fn told_shows()
+    ensures { (recurrence : Recurrence) (set : FixedTimespanSet) (t : ℤ) → IsAccepted (schedule_of set) → RepeatsAs recurrence set
+        → IsTold recurrence t
+        → (span_at (spans_of (told recurrence set)) t ≡ zone_span recurrence set t)
+        × (total_at (schedule_of (told recurrence set)) t ≡ zone_total recurrence set t) }
+{
+    unrolled_shows();
+}
+
+/// What each [`ZoneSet`] is built from can be looked up, and where its changes come again it shows at the seam what it shows a cycle
+/// later.
+pub fn of_each_set(set: &ZoneSet)
+    ensures accepted { IsAccepted (schedule_of (zone_set_of set.now)) }
+    ensures repeats { RepeatsAs (recurrence_of set.now) (zone_set_of set.now) }
 {
     let _ = set;
 }
@@ -101,4 +119,10 @@ pub fn shows_as_today()
 /// One total offset is in force throughout a second.
 pub fn holds_in_seconds()
     ensures { (set : FixedTimespanSet) (t : ℤ) → ever_total set t ≡ ever_total set (nanos_of (seconds_of t)) }
+{}
+
+/// So it is in each zone.
+pub fn zone_holds_in_seconds()
+    ensures { (recurrence : Recurrence) (set : FixedTimespanSet) (t : ℤ)
+        → zone_total recurrence set t ≡ zone_total recurrence set (nanos_of (seconds_of t)) }
 {}

@@ -1,4 +1,4 @@
-//! A zone of a table, opened for ever.
+//! A zone of a table, opened to 2099 or for ever.
 ghost use Rattle.std.specs.Prelude.{◌≡◌, IfErr, IfOk};
 ghost use Rattle.tz_zone.specs.{Sets.{IsAccepted, schedule_of}, declared.compile.ZoneFault.TheVariants.{NoMemory}};
 ghost use Rattle.tz_ever.specs.{Opens.{DoesNotGoOn, IsEverFault, IsFoundForEver, IsGoing, IsLater, ending_by, fault_later, IsZoneToday}, declared.open.EverFault.TheVariants.{Zone}};
@@ -7,8 +7,9 @@ ghost use Rattle.zone_spans.specs.declared.fault.SpanFault.TheVariants as span_f
 ghost use Rattle.zone_table.specs.BoundedTables.{IsBoundedTable};
 
 use crate::cycle::for_ever;
-use crate::ever_set::{EVER_YEARS, EverSet};
 use crate::laws;
+use crate::recurrence::Recurrence;
+use crate::zone_set::{EVER_YEARS, ZoneSet};
 use std::alloc::Global;
 use tz_lookup::{CompactFault, FixedTimespanSet};
 use tz_zone::{ZoneFault, compile_zone, compile_zone_over};
@@ -29,10 +30,30 @@ pub enum EverFault {
     LaterOffset,
 }
 
-impl EverSet {
-    ghost use Rattle.std.specs.Prelude.{IfErr, IfOk};
+impl ZoneSet {
+    ghost use Rattle.std.specs.Prelude.{◌≡◌, IfErr, IfOk};
     ghost use Rattle.zone_table.specs.BoundedTables.{IsBoundedTable};
-    ghost use Rattle.tz_ever.specs.{EverShown.{ever_seen}, Opens.{IsEverFault, IsFoundForEver, IsZoneToday}};
+    ghost use Rattle.tz_zone.specs.Compiles.{IsCompiledAs, IsZoneFault, compiled_in};
+    ghost use Rattle.tz_ever.specs.{ZoneShown.{recurrence_of, zone_set_of}, Opens.{IsEverFault, IsFoundForEver, IsZoneToday}, declared.recurrence.Recurrence.TheVariants.{Later, Never}};
+
+    /// The zone that a name finds in a table, with its rules up to the end of 2099. The table is bounded.
+    ///
+    /// # Errors
+    ///
+    /// Those of [`compile_zone`].
+    pub fn open_to_2099(alloc: Global, table: &Table, name: &str) -> Result<ZoneSet, ZoneFault>
+        requires { IsBoundedTable table.now }
+        ensures ok { IfOk result (λ zone. IsCompiledAs (zone_set_of zone) (compiled_in table.now name.now)) }
+        ensures named { IfOk result (λ zone. (zone_set_of zone).name ≡ name.now) }
+        ensures ends { IfOk result (λ zone. recurrence_of zone ≡ Never) }
+        ensures err { IfErr result (IsZoneFault (compiled_in table.now name.now)) }
+    {
+        let set = compile_zone(alloc, table, name)?;
+        match ZoneSet::build(alloc, &set, Recurrence::Never) {
+            Ok(zone) => Ok(zone),
+            Err(fault) => Err(no_space(fault)),
+        }
+    }
 
     /// The zone that a name finds in a table, for ever: what its lines show at any instant, expanded over as many years as the
     /// instant asks for. The table is bounded. The cost is that of expanding the lines over some 2,400 years.
@@ -41,14 +62,15 @@ impl EverSet {
     ///
     /// In this order: those of [`compile_zone`]; `LaterDay` and `RulesEnd` exactly where the zone doesn't go on, for a day of 2100 to 2503
     /// or without one; `LaterOffset` exactly where some span of the years from 2100 on has an offset of 26 hours or more in size.
-    pub fn open(alloc: Global, table: &Table, name: &str) -> Result<EverSet, EverFault>
+    pub fn open(alloc: Global, table: &Table, name: &str) -> Result<ZoneSet, EverFault>
         requires { IsBoundedTable table.now }
-        ensures ok { IfOk result (λ ever. IsFoundForEver table.now name.now (ever_seen ever)) }
+        ensures ok { IfOk result (λ zone. IsFoundForEver table.now name.now (zone_set_of zone)) }
+        ensures goes { IfOk result (λ zone. recurrence_of zone ≡ Later) }
         ensures err { IfErr result (IsEverFault table.now name.now) }
     {
         test_today(alloc, table, name)?;
-        match EverSet::carry_on(alloc, table, name) {
-            Ok(ever) => Ok(ever),
+        match ZoneSet::carry_on(alloc, table, name) {
+            Ok(zone) => Ok(zone),
             Err(fault) => Err(fault),
         }
     }
@@ -58,18 +80,19 @@ impl EverSet {
     ///
     /// # Errors
     ///
-    /// As [`EverSet::open`], but of [`compile_zone`]'s want of memory alone.
-    pub fn carry_on(alloc: Global, table: &Table, name: &str) -> Result<EverSet, EverFault>
+    /// As [`ZoneSet::open`], but of [`compile_zone`]'s want of memory alone.
+    pub fn carry_on(alloc: Global, table: &Table, name: &str) -> Result<ZoneSet, EverFault>
         requires table { IsBoundedTable table.now }
         requires today { IsZoneToday table.now name.now }
-        ensures ok { IfOk result (λ ever. IsFoundForEver table.now name.now (ever_seen ever)) }
+        ensures ok { IfOk result (λ zone. IsFoundForEver table.now name.now (zone_set_of zone)) }
+        ensures goes { IfOk result (λ zone. recurrence_of zone ≡ Later) }
         ensures err { IfErr result (IsEverFault table.now name.now) }
     {
         test_going(alloc, table, name)?;
         let set = later_set(alloc, table, name)?;
         laws::repeats_at_the_seam();
-        match EverSet::build(alloc, &set) {
-            Ok(ever) => Ok(ever),
+        match ZoneSet::build(alloc, &set, Recurrence::Later) {
+            Ok(zone) => Ok(zone),
             Err(fault) => Err(no_room(fault)),
         }
     }
@@ -168,6 +191,14 @@ fn later_fault(fault: ZoneFault) -> EverFault
         ZoneFault::UnknownZone => unreachable!(),
         ZoneFault::Schedule(_) => unreachable!(),
     }
+}
+
+fn no_space(fault: CompactFault) -> ZoneFault
+    requires { fault ≡ compact_fault.NoMemory }
+    ensures { result ≡ NoMemory }
+{
+    let _ = fault;
+    ZoneFault::NoMemory
 }
 
 fn no_room(fault: CompactFault) -> EverFault

@@ -1,10 +1,10 @@
 -- What holds stays as it is up to the next moment of the years that are looked at, or the next year.
-use Rattle.std.{proofs.Common.{◌≡◌, ◌≤◌, suc, ℤ, pos, neg_ℤ, cond, ◌+ℤ◌, ◌-ℤ◌, ◌*ℤ◌, ◌≤ℤ◌, ◌<ℤ◌, int_le, int_lt, refl, ap, ◌∙◌, arith, unsigned_abs}, specs.Prelude.{◌&&◌, ◌||◌}, specs.Int.{int_div_euclid}, proofs.lemmas.Int.{ints}}
-use Rattle.basics.specs.{ComparisonLaws.{lt_pass}, DateLaws.{IsYearOf, day-last_of_year, day-range, day_parts, place_of, year-between, year_of-is}, Dates.{year_of, month_of, day_of}, Days.{day, IsCountedYear}, MonthLaws.{days_through-two}, SignedLaws.{signed}}
+use Rattle.std.{proofs.Common.{◌≡◌, ◌≤◌, suc, ℤ, pos, neg_ℤ, cond, ◌+ℤ◌, ◌-ℤ◌, ◌*ℤ◌, ◌≤ℤ◌, ◌<ℤ◌, int_le, int_lt, refl, sym, ap, ◌∙◌, arith, unsigned_abs}, specs.Prelude.{◌&&◌, ◌||◌}, specs.Int.{int_div_euclid}, proofs.lemmas.Int.{ints}}
+use Rattle.basics.specs.{DateLaws.{IsYearOf, day-last_of_year, day-range, day_parts, place_of, year-between, year_of-is}, Dates.{year_of, month_of, day_of}, Days.{day, IsCountedYear}, MonthLaws.{days_through-two}, SignedLaws.{signed}}
 use Rattle.basics.specs.YearLaws.{cycle_days-suc, day-cycle}
-use Rattle.civil_base.specs.{DayRangeLaws.{day-first, day-last, counted}, RangeLaws.{offset_greatest, offset_least}, Ranges.{IsOffset, IsYear}}
+use Rattle.civil_base.specs.{RangeLaws.{offset_greatest, offset_least}, Ranges.{IsOffset}}
 use Rattle.tz_posix.specs.InForce.{YearlyTime, moments_in, year_at}
-use Rattle.tz_tzif.specs.FooterForce.{has_begun, is_footer_saving, is_saved, is_saved_by, year_after, year_before}
+use Rattle.tz_tzif.specs.{FooterForce.{has_begun, is_footer_saving, is_saved, is_saved_by, saved_in}, Places.{StandsForYear}, Years.{HasDate}}
 
 -- ---- comparisons
 same_le : (a s t n : ℤ) → s ≤ℤ t → t <ℤ n → (s <ℤ a → n ≤ℤ a) → int_le a t ≡ int_le a s
@@ -25,7 +25,7 @@ module _ (s t n : ℤ) (order : s ≤ℤ t) (before : t <ℤ n) where
   same_saved : (m : ℤ × ℤ) → AreApart m s n → is_saved m t ≡ is_saved m s
   same_saved m apart = λ i. same_le m.0 s t n order before apart.start i && (same_lt m.1 s t n order before apart.end i || int_lt m.1 m.0)
 
-  same_by : (after here last earlier : ℤ × ℤ) → AreApart after s n → AreApart here s n → AreApart last s n
+  pub same_by : (after here last earlier : ℤ × ℤ) → AreApart after s n → AreApart here s n → AreApart last s n
       → is_saved_by after here last earlier t ≡ is_saved_by after here last earlier s
   unfolding is_saved_by
   same_by after here last earlier a h l = λ i.
@@ -61,36 +61,18 @@ one_year y k years begun over =
     (omega (arith, signed, parts.1.number, begun)) (omega (arith, signed, parts.1.number, last)) in
     omega (arith, signed, both.0, both.1)
 
--- the year of a second of the years -4000 to 8000
-record IsNear (o s : ℤ) : Type 0 where
-  years : IsYear (year_at o s)
-  is : IsYearOf (year_at o s) (int_div_euclid (s +ℤ o) (pos 86400))
-
-near : (o s : ℤ) → IsOffset o → unsigned_abs s ≤ 200000000000 → IsNear o s
+-- the year of a second that has a date
+pub near : (o s : ℤ) → IsOffset o → HasDate s → IsYearOf (year_at o s) (int_div_euclid (s +ℤ o) (pos 86400))
 unfolding year_at
-near o s offset small =
+near o s offset dated =
     let k = int_div_euclid (s +ℤ o) (pos 86400) in
-    let low : neg_ℤ (pos 2400000) ≤ℤ k = omega (arith, signed, offset_least o offset, small) in
-    let high : k ≤ℤ pos 2400000 = omega (arith, signed, offset_greatest o offset, small) in
-    let parts = day_parts k (omega (arith, signed, low)) (omega (arith, signed, high)) in
-    let first : IsYear (neg_ℤ (pos 9999)) = record { first = omega (arith, signed); last = omega (arith, signed) } in
-    let last : IsYear (pos 9999) = record { first = omega (arith, signed); last = omega (arith, signed) } in
-    let year = year-between (year_of k) (month_of k) (day_of k) (neg_ℤ (pos 9999)) (pos 9999) parts.0
-    (counted _ first) (counted _ last) parts.1.date
-    (omega (arith, signed, day-first, low, parts.1.number)) (omega (arith, signed, day-last, high, parts.1.number)) in
-    record {
-      years = record { first = year.0; last = year.1 };
-      is = year_of-is k (omega (arith, signed, low)) (omega (arith, signed, high));
-    }
-
-after_is : (y : ℤ) → IsYear y → year_after y ≡ y +ℤ pos 1
-after_is y years = rw (lt_pass y (pos 10000) (omega (arith, signed, years.last))) refl
+    year_of-is k (omega (arith, signed, offset_least o offset, dated.first)) (omega (arith, signed, offset_greatest o offset, dated.last))
 
 -- the next year begins later
-pub later_year : (o s : ℤ) → IsOffset o → unsigned_abs s ≤ 200000000000 → s <ℤ (pos 86400 *ℤ day (year_after (year_at o s)) 1 1 -ℤ o)
-later_year o s offset small =
-    let here = near o s offset small in
-    rw (after_is (year_at o s) here.years) (omega (arith, signed, here.is.next))
+pub later_year : (o s : ℤ) → IsOffset o → HasDate s → s <ℤ (pos 86400 *ℤ day (year_at o s +ℤ pos 1) 1 1 -ℤ o)
+later_year o s offset dated =
+    let here = near o s offset dated in
+    omega (arith, signed, here.next)
 
 day_order : (o s t : ℤ) → s ≤ℤ t → int_div_euclid (s +ℤ o) (pos 86400) ≤ℤ int_div_euclid (t +ℤ o) (pos 86400)
 day_order o s t order = omega (arith, signed, order)
@@ -102,27 +84,26 @@ year_by : (o t y : ℤ) → year_of (int_div_euclid (t +ℤ o) (pos 86400)) ≡ 
 unfolding year_at
 year_by o t y is = is
 
-same_year : (o s t : ℤ) → IsOffset o → unsigned_abs s ≤ 200000000000 → s ≤ℤ t → t <ℤ (pos 86400 *ℤ day (year_after (year_at o s)) 1 1 -ℤ o)
+pub same_year : (o s t : ℤ) → IsOffset o → HasDate s → s ≤ℤ t → t <ℤ (pos 86400 *ℤ day (year_at o s +ℤ pos 1) 1 1 -ℤ o)
     → year_at o t ≡ year_at o s
-same_year o s t offset small order before =
-    let here = near o s offset small in
+same_year o s t offset dated order before =
+    let here = near o s offset dated in
     let y = year_at o s in
-    let next : t <ℤ (pos 86400 *ℤ day (y +ℤ pos 1) 1 1 -ℤ o) = rw (after_is y here.years) at before in
-    let begun : day y 1 1 ≤ℤ int_div_euclid (t +ℤ o) (pos 86400) = omega (arith, signed, here.is.begun, day_order o s t order) in
-    year_by o t y (one_year y (int_div_euclid (t +ℤ o) (pos 86400)) (counted y here.years) begun (day_before o t _ next))
+    let begun : day y 1 1 ≤ℤ int_div_euclid (t +ℤ o) (pos 86400) = omega (arith, signed, here.begun, day_order o s t order) in
+    year_by o t y (one_year y (int_div_euclid (t +ℤ o) (pos 86400)) here.counted begun (day_before o t _ before))
 
--- n: no moment of the three years, and no other year, comes before it
-pub same_saving : (standard saving : ℤ) (start end : YearlyTime) (s n : ℤ) → IsOffset standard → unsigned_abs s ≤ 200000000000
-    → n ≤ℤ (pos 86400 *ℤ day (year_after (year_at standard s)) 1 1 -ℤ standard)
-    → AreApart (moments_in standard saving start end (year_after (year_at standard s))) s n
-    → AreApart (moments_in standard saving start end (year_at standard s)) s n
-    → AreApart (moments_in standard saving start end (year_before (year_at standard s))) s n
-    → (t : ℤ) → s ≤ℤ t → t <ℤ n
+-- n: the next year asked for the year of s begins no earlier
+pub same_saving : (standard saving : ℤ) (start end : YearlyTime) (s asked later n : ℤ) → IsOffset standard → HasDate s
+    → StandsForYear (year_at standard s) asked later
+    → n ≤ℤ (pos 86400 *ℤ day (asked +ℤ pos 1) 1 1 -ℤ standard)
+    → ((t : ℤ) → (s +ℤ later) ≤ℤ t → t <ℤ n → saved_in (moments_in standard saving start end) asked t ≡ saved_in (moments_in standard saving start end) asked (s +ℤ later))
+    → (t : ℤ) → s ≤ℤ t → t <ℤ (n -ℤ later)
     → is_footer_saving standard saving start end t ≡ is_footer_saving standard saving start end s
 unfolding is_footer_saving
-same_saving standard saving start end s n offset small next after here last t order before =
+same_saving standard saving start end s asked later n offset dated stands next same t order before =
     let y = year_at standard s in
     let moments = moments_in standard saving start end in
-    ap (λ z. is_saved_by (moments (year_after z)) (moments z) (moments (year_before z)) (moments (year_before (year_before z))) t)
-    (same_year standard s t offset small order (omega (arith, ints, before, next)))
-    ∙ same_by s t n order before (moments (year_after y)) (moments y) (moments (year_before y)) (moments (year_before (year_before y))) after here last
+    ap (λ z. saved_in moments z t) (same_year standard s t offset dated order (omega (arith, signed, before, next, stands.ends)))
+    ∙ sym (stands.gives standard saving start end t)
+    ∙ same (t +ℤ later) (omega (arith, ints, order)) (omega (arith, ints, before))
+    ∙ stands.gives standard saving start end s

@@ -1,4 +1,7 @@
 pub mod ChangeLemmas
+pub mod CycleLemmas
+mod SpanLemmas
+mod OpenLemmas
 mod RangeLemmas
 mod FooterReadLemmas
 mod FooterSaidLemmas

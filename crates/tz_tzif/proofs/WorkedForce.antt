@@ -1,9 +1,9 @@
 -- What rules give at instants that are known from outside, where they fire past their year's edges; and which year decides.
-use Rattle.std.{proofs.Common.{◌≡◌, refl, arith, ◌∙◌, ap, cond, ℕ, ◌&&◌, nat_le, [], ◌∷◌, ◌++◌, map, true, false, ℤ, pos, neg_ℤ, ◌+ℤ◌, Bool, codes}, proofs.lemmas.Bool.{and_parts, leb-true}, specs.Int.{int_div_euclid}}
+use Rattle.std.{proofs.Common.{◌≡◌, refl, arith, ◌∙◌, ap, cond, ℕ, ◌&&◌, nat_le, [], ◌∷◌, ◌++◌, map, true, false, ℤ, pos, neg_ℤ, ◌+ℤ◌, ◌*ℤ◌, Bool, codes}, proofs.lemmas.Bool.{and_parts, leb-true}, specs.Int.{int_div_euclid}}
 use Rattle.basics.specs.{Dates.{last_with, year_of}, DateLaws.{year_of-day}, Days.{is_leap, days_in_year, days_in_month, days_after_zero, year_start, days_through, days_into_year, day, IsCountedYear}, SignedLaws.{signed}, Weekdays.{weekday_of}}
 use Rattle.tz_posix.specs.{Days.{nth_weekday, rule_day}, InForce.{YearlyTime, instant_in, year_at}, declared.date.Date.TheVariants.{M, N}}
 use Rattle.zone_tzif_core.specs.Zones.{KindValue}
-use Rattle.tz_tzif.specs.FooterForce.{is_saved_by, is_footer_saving, year_after, year_before, FooterZone, fixed, yearly, held_at, is_of_one_year, standard_total, saving_total}
+use Rattle.tz_tzif.specs.FooterForce.{is_saved_by, is_footer_saving, saved_in, FooterZone, fixed, yearly, held_at, is_of_one_year, standard_total, saving_total}
 
 -- years from 10 to 20, from 110 to 120 and from 210 to 220: before all, and at each moment and a second before it
 in_order : map (is_saved_by (pos 210, pos 220) (pos 110, pos 120) (pos 10, pos 20) (neg_ℤ (pos 90), neg_ℤ (pos 80)))
@@ -46,12 +46,25 @@ never : map (is_saved_by (pos 200, pos 200) (pos 100, pos 100) (pos 10, pos 10) 
 unfolding is_saved_by
 never = refl
 
--- years are counted to 10000 on both sides
-edges : map year_after (pos 9999 ∷ pos 10000 ∷ []) ≡ pos 10000 ∷ pos 10000 ∷ []
-edges = refl
+-- the year after a year, the year itself and the two before it, where each year's rule holds from its tenth second to its twentieth, a hundred
+-- seconds after the year before
+abbrev by_hundreds : ℤ → ℤ × ℤ
+by_hundreds y = (pos 100 *ℤ y +ℤ pos 10, pos 100 *ℤ y +ℤ pos 20)
 
-first_edges : map year_before (neg_ℤ (pos 9999) ∷ neg_ℤ (pos 10000) ∷ []) ≡ neg_ℤ (pos 10000) ∷ neg_ℤ (pos 10000) ∷ []
-first_edges = refl
+by_years : map (saved_in by_hundreds (pos 1))
+    (pos 9 ∷ pos 10 ∷ pos 19 ∷ pos 20 ∷ pos 109 ∷ pos 110 ∷ pos 119 ∷ pos 120 ∷ pos 209 ∷ pos 210 ∷ pos 219 ∷ pos 220 ∷ [])
+    ≡ false ∷ true ∷ true ∷ false ∷ false ∷ true ∷ true ∷ false ∷ false ∷ true ∷ true ∷ false ∷ []
+unfolding is_saved_by
+by_years = refl
+
+-- before the year before begins, the year before that one decides
+abbrev turning : ℤ → ℤ × ℤ
+turning y = (pos 100 *ℤ y +ℤ pos 20, pos 100 *ℤ y +ℤ pos 10)
+
+from_two_before : map (λ y. saved_in turning y (pos 9)) (pos 0 ∷ pos 1 ∷ []) ++ map (λ y. saved_in by_hundreds y (pos 9)) (pos 0 ∷ pos 1 ∷ [])
+    ≡ true ∷ true ∷ false ∷ false ∷ []
+unfolding is_saved_by
+from_two_before = refl
 
 years_2024 : IsCountedYear (pos 2024)
 years_2024 = record { first = omega (arith, signed); last = omega (arith, signed) }

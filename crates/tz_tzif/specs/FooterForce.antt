@@ -1,5 +1,5 @@
 -- What a footer puts in force. Seconds are from 1970-01-01 00:00 UTC.
-use Rattle.std.specs.Prelude.{Bool, true, ◌&&◌, ◌||◌, not, if◌then◌else◌, ℤ, pos, neg_ℤ, ◌+ℤ◌, ◌-ℤ◌, int_le, int_lt}
+use Rattle.std.specs.Prelude.{Bool, true, false, ◌&&◌, ◌||◌, not, if◌then◌else◌, ℤ, pos, ◌+ℤ◌, ◌-ℤ◌, int_le, int_lt}
 use Rattle.tz_posix.specs.InForce.{YearlyTime, moments_in, year_at}
 use Rattle.zone_tzif_core.specs.Zones.{KindValue}
 
@@ -23,24 +23,23 @@ is_saved_by after here before earlier s =
     else (if has_begun here s then is_saved here s
     else is_saved_since before earlier s)
 
--- the year after and the year before, as far as years are counted
-abbrev pub year_after : ℤ → ℤ
-year_after y = if int_lt y (pos 10000) then y +ℤ pos 1 else y
-
-abbrev pub year_before : ℤ → ℤ
-year_before y = if int_lt (neg_ℤ (pos 10000)) y then y -ℤ pos 1 else y
+-- of the moments of each year, by those of the year after one, of it and of the two before it
+abbrev pub saved_in : (ℤ → ℤ × ℤ) → ℤ → ℤ → Bool
+saved_in moments y s = is_saved_by (moments (y +ℤ pos 1)) (moments y) (moments (y -ℤ pos 1)) (moments (y -ℤ pos 2)) s
 
 -- by the rule in the year at the standard offset, in the year after and in the two years before
 unfoldable pub is_footer_saving : ℤ → ℤ → YearlyTime → YearlyTime → ℤ → Bool
-is_footer_saving standard saving start end s =
-    let y = year_at standard s in
-    let moments = moments_in standard saving start end in
-    is_saved_by (moments (year_after y)) (moments y) (moments (year_before y)) (moments (year_before (year_before y))) s
+is_footer_saving standard saving start end s = saved_in (moments_in standard saving start end) (year_at standard s) s
 
 -- one kind for good, or standard and daylight saving time with a start and an end in each year
 pub data FooterZone : Type 0 where
   fixed : KindValue → FooterZone
   yearly : KindValue → KindValue → YearlyTime → YearlyTime → FooterZone
+
+-- standard time alone
+abbrev pub is_fixed : FooterZone → Bool
+is_fixed (fixed kind) = true
+is_fixed (yearly standard saving start end) = false
 
 -- what holds at a second
 unfoldable pub held_at : FooterZone → ℤ → KindValue
@@ -53,7 +52,7 @@ is_of_one_year (fixed kind) s = true
 is_of_one_year (yearly standard saving start end) s =
     let y = year_at standard.utoff s in
     let moments = moments_in standard.utoff saving.utoff start end in
-    has_begun (moments y) s && not (has_begun (moments (year_after y)) s)
+    has_begun (moments y) s && not (has_begun (moments (y +ℤ pos 1)) s)
 
 -- the seconds east of UTC of standard time
 abbrev pub standard_total : FooterZone → ℤ

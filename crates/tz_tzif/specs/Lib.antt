@@ -5,6 +5,8 @@ pub mod Shown
 pub mod Ranges
 pub mod Standing
 pub mod FooterForce
+pub mod Years
+pub mod Places
 pub mod FooterShown
 pub mod Faults
 pub mod InForce
@@ -14,6 +16,7 @@ pub mod Offsets
 pub mod Owners
 pub mod Zones
 pub mod Lasting
+pub mod Opened
 -- Laws: what a caller may use.
 pub mod FooterLaws
 -- Words of private clauses.
@@ -24,3 +27,4 @@ pub mod Cells
 pub mod OwnZones
 pub mod Kept
 pub mod Next
+pub mod Walks

@@ -27,7 +27,7 @@ pub(crate) struct Yearly<'a> {
 
 impl<'a> Footer<'a> {
     ghost use Rattle.std.specs.Prelude.{MatchOption};
-    ghost use Rattle.tz_tzif.specs.{FooterShown.{footer_shown}, FooterForce.{held_at, standard_total, saving_total}, Ranges.{IsFooterOf}, Standing.{StandsFor, stands_for}, Values.{FooterValue}};
+    ghost use Rattle.tz_tzif.specs.{FooterShown.{footer_shown}, FooterForce.{fixed, held_at, is_fixed, standard_total, saving_total}, Ranges.{IsFooterOf}, Standing.{StandsFor, stands_for}, Values.{FooterValue}, Years.{HasDate}};
 
     /// What a whole footer stands for. There is nothing exactly where the text is no footer, or has a part that is out of its
     /// range: more than 24 hours of an offset (24:59:59 is taken), more than 167 of a rule's time, a minute or a second past 59,
@@ -41,6 +41,16 @@ impl<'a> Footer<'a> {
                 Err(_error) => None,
             },
             None => None,
+        }
+    }
+
+    /// One kind of time for good, which may be daylight saving time: that is the text of no footer.
+    pub fn standing(kind: &Held<'a>) -> Footer<'a>
+        ensures { footer_shown result ≡ fixed (held_shown kind.now) }
+    {
+        Footer {
+            standard: kind.copied(),
+            saving: None,
         }
     }
 
@@ -92,10 +102,9 @@ impl<'a> Footer<'a> {
         }
     }
 
-    /// A later second up to which the same holds as at a second, at most 200,000,000,000 in size: of the years -4000 to 8000. Seconds are
-    /// those from 1970-01-01 00:00:00 UTC.
+    /// A later second up to which the same holds as at a second that has a date. Seconds are those from 1970-01-01 00:00:00 UTC.
     pub fn next_change(&self, second: i64) -> i64
-        requires { unsigned_abs second ≤ 200_000_000_000 }
+        requires { HasDate second }
         ensures later { second <ℤ result }
         ensures same { (t : ℤ) → second ≤ℤ t → t <ℤ result → held_at (footer_shown self.now) t ≡ held_at (footer_shown self.now) second }
     {
@@ -108,6 +117,18 @@ impl<'a> Footer<'a> {
                 second,
             ),
         }
+    }
+
+    /// Whether it is standard time alone.
+    pub fn is_fixed(&self) -> bool
+        ensures { result ≡ is_fixed (footer_shown self.now) }
+    {
+        self.saving.is_none()
+    }
+
+    /// Whether it has daylight saving time, with a rule for each year.
+    pub(crate) fn is_yearly(&self) -> bool {
+        self.saving.is_some()
     }
 
     /// The offset of standard time, and that of daylight saving time, or the same once more where there is none.

@@ -1,15 +1,9 @@
-//! What the start and the end of daylight saving time in one year say of a second, and the years beside.
+//! What the start and the end of daylight saving time in one year say of a second.
 ghost use Rattle.std.specs.Prelude.{◌≡◌, int_lt, ◌<ℤ◌, ◌≤ℤ◌};
-ghost use Rattle.basics.specs.Days.{IsCountedYear};
-ghost use Rattle.tz_tzif.specs.FooterForce.{has_begun as begun_by, is_saved as saved_by, year_after as next_of, year_before as last_of};
+ghost use Rattle.tz_tzif.specs.FooterForce.{has_begun as begun_by, is_saved as saved_by};
 ghost use Rattle.tz_posix.specs.Yearly.{moments_shown};
 
 use tz_posix::parts::Moments;
-
-/// The first and the last year in which days are counted.
-const FIRST_YEAR: i32 = -10_000;
-
-const LAST_YEAR: i32 = 10_000;
 
 /// Whether the start or the end is at or before a second.
 pub(crate) fn has_begun(moments: &Moments, second: i64) -> bool
@@ -55,22 +49,4 @@ fn sooner(second: i64, moment: i64, next: i64) -> i64
     } else {
         next
     }
-}
-
-/// The year after, as far as years are counted.
-pub(crate) fn year_after(year: i32) -> i32
-    requires { IsCountedYear year }
-    ensures year { result ≡ next_of year }
-    ensures counted { IsCountedYear result }
-{
-    if year < LAST_YEAR { year + 1 } else { year }
-}
-
-/// The year before, as far as years are counted.
-pub(crate) fn year_before(year: i32) -> i32
-    requires { IsCountedYear year }
-    ensures year { result ≡ last_of year }
-    ensures counted { IsCountedYear result }
-{
-    if FIRST_YEAR < year { year - 1 } else { year }
 }

@@ -10,10 +10,11 @@ use crate::cells::{Cell, told_among};
 use crate::fault::TzifFault;
 use crate::footer::Footer;
 use crate::held::{Held, is_same};
+use crate::in_force::{held_in, next_in};
 use crate::instants::{TzifInstants, next_read};
 use crate::kept::KeptOffsets;
 use crate::offsets::offsets_of;
-use crate::search::{changes_until, held_after, time_at};
+use crate::search::held_after;
 use civil_base::{OffsetDateTime, PlainDateTime};
 use std::alloc::Global;
 use tz_zone::{InstantsOf, OffsetResult, TimeZone};
@@ -107,21 +108,13 @@ impl<'a> TzifTz<'a> {
 
     /// A later second up to which the same holds as at a second, at most 200,000,000,000 in size: of the years -4000 to 8000. Seconds are
     /// those from 1970-01-01 00:00:00 UTC.
-    #[tactic(auto, unfolding(crate::specs::InForce::kind_in))]
     pub fn next_change(&self, second: i64) -> i64
         requires { unsigned_abs second ≤ 200_000_000_000 }
         ensures later { second <ℤ result }
         ensures same { (t : ℤ) → second ≤ℤ t → t <ℤ result
             → kind_in (value_of self.now) (says_of self.now) t ≡ kind_in (value_of self.now) (says_of self.now) second }
     {
-        let count = changes_until(self.zone, second);
-        if count < self.zone.change_count() {
-            return time_at(self.zone, count);
-        }
-        match &self.footer {
-            Some(footer) => footer.next_change(second),
-            None => i64::MAX,
-        }
+        next_in(self.zone, &self.footer, second)
     }
 
     /// The first second after one of the years -4000 to 8000 at which another kind of time holds; where none comes in these years, a
@@ -153,18 +146,11 @@ impl<'a> TzifTz<'a> {
     }
 
     /// What holds at a second.
-    #[tactic(auto, unfolding(crate::specs::InForce::kind_in))]
     pub(crate) fn held_at(&self, second: i64) -> Held<'a>
         requires { unsigned_abs second ≤ 800_000_000_000 }
         ensures { held_shown result ≡ kind_in (value_of self.now) (says_of self.now) second }
     {
-        let count = changes_until(self.zone, second);
-        let over = count == self.zone.change_count();
-        match &self.footer {
-            Some(footer) if over => footer.held_at(second),
-            Some(_) => held_after(self.zone, count),
-            None => held_after(self.zone, count),
-        }
+        held_in(self.zone, &self.footer, second)
     }
 }
 

@@ -1,6 +1,6 @@
 -- Answers by the zones that names found.
-use Rattle.std.{proofs.Common.{◌≡◌, ℕ, ℤ, List, [], Option, Some, None, IfSome, Ok, Bool, true, false, cond, refl, sym, subst, ◌∙◌, int_cmp, int_lt, is_lt, Less, Equal, Greater}, specs.Prelude.{Result, Vec}, specs.declared.alloc.Global.{Global}}
-use Rattle.zone_command.specs.{Answers.{told, IsAnswer, IsReply, ◌>>=◌}, Named.{Found, named_in}, Replies.{list_answer, list_lines, on_zone}, declared.source.Refusal.{Refusal}}
+use Rattle.std.{proofs.Common.{◌≡◌, ℕ, ℤ, List, [], Option, Some, None, IfSome, Ok, Err, Bool, true, false, cond, refl, sym, subst, ◌∙◌, int_cmp, int_lt, is_lt, Less, Equal, Greater}, specs.Prelude.{Result, Vec}, specs.declared.alloc.Global.{Global}}
+use Rattle.zone_command.specs.{Answers.{told, IsAnswer, IsReply, ◌>>=◌}, Due.{Due as Delivered, IsDue}, Named.{Found, named_in}, Replies.{list_answer, list_lines, on_zone}, declared.answerer.AnswerFault.{AnswerFault, TheVariants.{Line, NoMemory}}, declared.source.Refusal.{Refusal}}
 use Rattle.zone_moments.specs.declared.answer_form.AnswerForm.{AnswerForm}
 use Rattle.zone_replies.specs.{Faults.{Due}, Views.{ZoneView}, declared.fault.ReplyFault.{ReplyFault}}
 
@@ -37,3 +37,9 @@ pub over_text : {D : Type 0} (due : List ℕ → D → Type 0) (told left : Opti
     → IfSome told (λ text. (items ≡ text) × (left ≡ Some [])) → read ≡ items → due read it → IfSome told (λ text. (left ≡ Some []) × due text it)
 over_text due None left items read it whole same is = tt
 over_text due (Some text) left items read it whole same is = (whole.1, subst (λ t. due t it) (same ∙ whole.0) is)
+
+-- what is due in one way is due in another
+pub due_so : (D E : Delivered → Type 0) (r : Result (Vec ℕ Global) AnswerFault) → ((due : Delivered) → D due → E due) → IsDue D r → IsDue E r
+due_so D E (Ok bytes) so is = so (Ok bytes.items) is
+due_so D E (Err (Line line)) so is = so (Err line.items) is
+due_so D E (Err NoMemory) so is = tt

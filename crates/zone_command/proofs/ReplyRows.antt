@@ -1,11 +1,11 @@
 -- Answers over a source with one zone, which has no saving and lists four seconds.
-use Rattle.std.{proofs.Common.{◌≡◌, refl, ap, arith, map, lit≤, ℕ, pos, List, [], ◌∷◌, ◌++◌, ◌&&◌, cond, filter, int_le, int_lt, Some, None}, specs.Prelude.{Ok, Err, bytes_eq, codes}, specs.Fmt.{digits}}
+use Rattle.std.{proofs.Common.{◌≡◌, refl, true, false, ap, arith, map, lit≤, ℕ, pos, List, [], ◌∷◌, ◌++◌, ◌&&◌, cond, filter, int_le, int_lt, Some, None}, specs.Prelude.{Ok, Err, bytes_eq, codes}, specs.Fmt.{digits}}
 use Rattle.basics.specs.{DateLaws.{year_of-day}, Dates.{year_of}, Days.{is_leap, days_in_year, days_in_month, days_after_zero, days_before_zero, year_start, days_through, days_into_year, day, IsCountedYear}, SignedLaws.{signed}, Numbers.{value_in}}
 use Rattle.civil_base.specs.{Instants.{seconds_of}, Layout.{day_part}}
-use Rattle.zone_command.specs.{Answers.{lined, told}, Named.{Found, named_in}, Offsets.{two_in, size_in, offset_in}, Replies.{list_lines, reply_of}}
+use Rattle.zone_command.specs.{Answers.{lined, of_name, told}, Named.{Found, named_in}, Offsets.{two_in, size_in, offset_in}, Replies.{asks_form, list_lines, reply_of}}
 use Rattle.zone_moments.specs.{Written.{epoch_text, fraction_text, offset_shown}, declared.answer_form.AnswerForm.TheVariants.{Epoch}}
 use Rattle.zone_replies.specs.{Faults.{each_due}, Fixed.{fixed_view}, Lists.{change_due, list_due, sides_text}, Views.{ZoneView}, declared.fault.ReplyFault.TheVariants.{OutOfYears, Untold}}
-use Rattle.zone_words.specs.Tasks.{converted, list_changes}
+use Rattle.zone_words.specs.Tasks.{converted, list_changes, plain_form, tree}
 
 view : ZoneView
 view = record {
@@ -51,6 +51,14 @@ backwards : map (λ to. reply_of found [] Epoch (pos 5) (list_changes (codes "b"
     ∷ Err (codes "\"b\": none") ∷ []
 unfolding found value_in two_in size_in offset_in
 backwards = refl
+
+-- a name in front of why there is no answer
+of_names : map (of_name (codes "f")) (Ok (codes "a") ∷ Err (codes "w") ∷ []) ≡ Ok (codes "a") ∷ Err (codes "\"f\": w") ∷ []
+of_names = refl
+
+-- a plain form is asked for
+forms : map asks_form (plain_form (codes "f") ∷ tree true ∷ []) ≡ true ∷ false ∷ []
+forms = refl
 
 lines : map lined (Ok (codes "a") ∷ told (codes "x") (Err OutOfYears) ∷ [])
     ≡ Ok (codes "a") ∷ Err (codes "zone: \"x\": a date lies outside the years -9999 to 9999" ++ 10 ∷ []) ∷ []

@@ -4,7 +4,7 @@ use Rattle.zone_command.specs.{Ends.{file_of, is_served}, Failures.{Failure, bad
 use Rattle.zone_moments.specs.declared.fault.TextFault.TheVariants.{TimeMissing}
 use Rattle.zone_pieces.specs.declared.running.StreamEnd.{StreamEnd, TheVariants.{Done, Fault, Read, Write, NoMemory, TooLong}}
 use Rattle.zone_source.specs.Statuses.{code_of}
-use Rattle.zone_words.specs.{FaultLines.{fault_line}, Tasks.{TaskAsked, help, at_instants, local_time, list_changes, log, stream, tree}, declared.command.Command.TheVariants.{At}, declared.fault.WordCause.TheVariants.{BeforeFirst, Text, TooFew, UnknownOption}}
+use Rattle.zone_words.specs.{FaultLines.{fault_line}, Tasks.{TaskAsked, help, at_instants, local_time, list_changes, log, plain_form, stream, tree}, declared.command.Command.TheVariants.{At}, declared.fault.WordCause.TheVariants.{BeforeFirst, Text, TooFew, UnknownOption}}
 
 abbrev quoted : List ℕ → List ℕ
 quoted word = 34 ∷ word ++ 34 ∷ []
@@ -56,11 +56,11 @@ tasks =
     (at_instants [] (Some (pos 1) ∷ None ∷ []), true) ∷ (at_instants [] (Some (pos 1) ∷ []), false) ∷
     (list_changes [] (Some (pos 1)) None [], true) ∷ (list_changes [] None (Some (pos 1)) [], true) ∷ (local_time [] (pos 1), false) ∷
     (list_changes [] (Some (pos 1)) (Some (pos 2)) [], false) ∷
-    (help (Some At), false) ∷ (stream true, false) ∷ []
+    (help (Some At), false) ∷ (stream true, false) ∷ (plain_form [], false) ∷ []
 
 worked_tasks : map (λ row. asks_now row.0) tasks ≡ map (λ row. row.1) tasks
 worked_tasks = refl
 
 -- what answers what comes in
-worked_served : map is_served (stream false ∷ log [] None ∷ tree ∷ at_instants [] [] ∷ []) ≡ true ∷ true ∷ false ∷ false ∷ []
+worked_served : map is_served (stream false ∷ log [] None ∷ tree true ∷ plain_form [] ∷ at_instants [] [] ∷ []) ≡ true ∷ true ∷ false ∷ false ∷ false ∷ []
 worked_served = refl

@@ -16,6 +16,11 @@ abbrev pub told : List ℕ → Due → Answer
 told name (Ok text) = Ok text
 told name (Err fault) = Err (name_words name (fault_words fault))
 
+-- with a name in front of the words that tell why there is none
+abbrev pub of_name : List ℕ → Answer → Answer
+of_name name (Ok text) = Ok text
+of_name name (Err why) = Err (name_words name why)
+
 -- the words as a line
 abbrev pub lined : Answer → Delivered
 lined (Ok text) = Ok text

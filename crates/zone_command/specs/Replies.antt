@@ -1,11 +1,11 @@
 -- What is due of words over zones.
-use Rattle.std.specs.Prelude.{◌≡◌, ◌⊎◌, ◌&&◌, ℕ, List, [], ◌∷◌, ◌++◌, map, Option, Result, Ok, Err, codes, decimal, int_lt, unwrap_or, ℤ, if◌then◌else◌}
+use Rattle.std.specs.Prelude.{◌≡◌, ◌⊎◌, ◌&&◌, ℕ, Bool, true, false, List, [], ◌∷◌, ◌++◌, map, Option, Result, Ok, Err, codes, decimal, int_lt, unwrap_or, ℤ, if◌then◌else◌}
 use Rattle.civil_base.specs.Ranges.{is_in_years}
-use Rattle.zone_command.specs.{Answers.{Answer, OfName, told, lined, ◌>>=◌}, Named.{Found, named_in}, Refusals.{name_words, told_line}, Due.{Answers, Due as Delivered}}
+use Rattle.zone_command.specs.{Answers.{Answer, OfName, lined, of_name, told, ◌>>=◌}, Named.{Found, named_in}, Refusals.{name_words, told_line}, Due.{Answers, Due as Delivered}}
 use Rattle.zone_displays.specs.{Charts.{chart_due}, SeenZones.{Named}, SeenNames.{NameSeen}, Texts.{names_text}, Rings.{rings_due}}
 use Rattle.zone_moments.specs.declared.answer_form.AnswerForm.{AnswerForm}
 use Rattle.zone_replies.specs.{Faults.{Due, behind, ended}, Instants.{line_due}, Lists.{list_due}, Readings.{convert_due}, Views.{ZoneView}, declared.fault.ReplyFault.TheVariants.{OutOfYears}}
-use Rattle.zone_words.specs.Tasks.{TaskAsked, WordsAsked, at_instants, local_time, converted, list_changes, alarm, names, file, posix_string, tree, chart}
+use Rattle.zone_words.specs.Tasks.{TaskAsked, WordsAsked, at_instants, local_time, converted, list_changes, alarm, names, file, posix_string, tree, chart, plain_form}
 
 -- a line for each instant, behind those that there are
 abbrev pub at_lines : AnswerForm → ZoneView → List ℕ → List ℕ → List ℤ → Due
@@ -73,15 +73,15 @@ reply_of found entries form now _ = Ok []
 abbrev pub Says : Type 1
 Says = Answer → Type 0
 
-abbrev pub IsReplyTo : (List ℕ → Found) → List NameSeen → (List ℕ → Says) → (List ℕ → Says) → Says → AnswerForm → ℤ → TaskAsked → Says
+abbrev pub IsReplyTo : (List ℕ → Found) → List NameSeen → (List ℕ → Says) → (List ℕ → Says) → (Bool → Says) → AnswerForm → ℤ → TaskAsked → Says
 IsReplyTo found entries files strings trees form now (file name) answer = OfName name (files name) answer
 IsReplyTo found entries files strings trees form now (posix_string name) answer = OfName name (strings name) answer
-IsReplyTo found entries files strings trees form now tree answer = trees answer
+IsReplyTo found entries files strings trees form now (tree to_2099) answer = trees to_2099 answer
 IsReplyTo found entries files strings trees form now task answer = reply_of found entries form now task ≡ answer
 
 -- the source that the text is read as, and what is due over it
 pub record IsReplyOver {S : Type 0} (reads : List ℕ → S → Type 0) (found : S → List ℕ → Found) (entries : S → List NameSeen)
-    (files strings : S → List ℕ → Says) (trees : S → Says) (asked : WordsAsked) (now : ℤ) (text : List ℕ) (due : Delivered) : Type 0 where
+    (files strings : S → List ℕ → Says) (trees : S → Bool → Says) (asked : WordsAsked) (now : ℤ) (text : List ℕ) (due : Delivered) : Type 0 where
   pub source : S
   pub read : reads text source
   pub answer : Answer
@@ -94,8 +94,20 @@ pub record IsNoSource (unread : List ℕ → List ℕ → Type 0) (file text : L
   pub unread_for : unread text why
   pub line : due ≡ Err (told_line (name_words file why))
 
+-- what is due of zones over the text of a file
+abbrev pub IsZoneOver : {S : Type 0} → (List ℕ → S → Type 0) → (List ℕ → List ℕ → Type 0) → (S → List ℕ → Found) → (S → List NameSeen)
+    → (S → List ℕ → Says) → (S → List ℕ → Says) → (S → Bool → Says) → Answers
+IsZoneOver reads unread found entries files strings trees asked now name text due =
+    IsReplyOver reads found entries files strings trees asked now text due ⊎ IsNoSource unread name text due
+
+-- the plain form of a text is asked for, and no zone
+abbrev pub asks_form : TaskAsked → Bool
+asks_form (plain_form path) = true
+asks_form _ = false
+
 -- what is due over the text of a file
 abbrev pub IsDueOver : {S : Type 0} → (List ℕ → S → Type 0) → (List ℕ → List ℕ → Type 0) → (S → List ℕ → Found) → (S → List NameSeen)
-    → (S → List ℕ → Says) → (S → List ℕ → Says) → (S → Says) → Answers
-IsDueOver reads unread found entries files strings trees asked now name text due =
-    IsReplyOver reads found entries files strings trees asked now text due ⊎ IsNoSource unread name text due
+    → (S → List ℕ → Says) → (S → List ℕ → Says) → (S → Bool → Says) → (List ℕ → Answer) → Answers
+IsDueOver reads unread found entries files strings trees forms asked now name text due =
+    ((asks_form asked.task ≡ true) × (due ≡ lined (of_name name (forms text))))
+    ⊎ ((asks_form asked.task ≡ false) × IsZoneOver reads unread found entries files strings trees asked now name text due)

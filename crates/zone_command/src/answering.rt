@@ -1,7 +1,7 @@
 //! What answers over a source.
 ghost use Rattle.std.specs.Prelude.{◌≡◌, ◌≤◌, length, [], map, option_map, Ok};
 ghost use Rattle.civil_base.specs.DateTimes.{instant};
-ghost use Rattle.zone_command.specs.{Answers.{OfName, lined, told, IsAnswer, IsGiven}, Replies.{at_lines, convert_lines, instants_at, list_answer, on_zone, reply_of, IsDueOver, IsReplyTo}, Due.{IsDue}};
+ghost use Rattle.zone_command.specs.{Answers.{OfName, lined, of_name, told, IsAnswer, IsGiven}, Replies.{at_lines, convert_lines, instants_at, list_answer, on_zone, reply_of, IsDueOver, IsReplyTo, IsZoneOver, asks_form}, Due.{IsDue}};
 ghost use Rattle.zone_moments.specs.Shown.{asked as asked_of};
 ghost use Rattle.zone_displays.specs.{Texts.{names_text}, Rings.{rings_due}};
 ghost use Rattle.zone_words.specs.TaskShown.{alarm_shown, task_shown, words_shown};
@@ -179,9 +179,56 @@ fn reply<S: ZoneSource>(
         Task::Names(word) => names_reply(alloc, source, form, *word),
         Task::File(name) => file_reply(alloc, source, *name),
         Task::String(name) => string_reply(alloc, source, *name),
-        Task::Tree => source.tree(alloc),
+        Task::Tree(to_2099) => source.tree(alloc, *to_2099),
         Task::Chart(names, year) => chart_reply(alloc, source, names.as_slice(), *year),
         _ => Ok(Vec::new(alloc)),
+    }
+}
+
+/// Whether the plain form of the text is asked for.
+fn asks_form(task: &Task<'_>) -> bool
+    ensures { result ≡ asks_form (task_shown task.now) }
+{
+    matches!(task, Task::Plain(_))
+}
+
+/// What is due for a plain form.
+fn form_due<S: ZoneSource>(alloc: Global, file: &str, text: &[u8]) -> Result<Vec<u8>, AnswerFault>
+    requires { length text.now ≤ 16777216 }
+    ensures { IsDue (λ due. due ≡ lined (of_name file.now (S.forms text.now))) result }
+{
+    match S::plain_form(alloc, text) {
+        Ok(form) => Ok(form),
+        Err(Refusal::Why(why)) => {
+            let words = name_words(alloc, file, &why)?;
+            Err(AnswerFault::Line(told_line(alloc, &words)?))
+        }
+        Err(Refusal::NoMemory) => Err(AnswerFault::NoMemory),
+    }
+}
+
+/// What is due for any other task.
+fn reply_due<S: ZoneSource>(
+    alloc: Global,
+    asked: &Asked<'_>,
+    now: &OffsetDateTime,
+    file: &str,
+    text: &[u8],
+) -> Result<Vec<u8>, AnswerFault>
+    requires { length text.now ≤ 16777216 }
+    ensures { IsDue (IsZoneOver S.reads S.unread S.found S.entries S.files S.strings S.trees (words_shown asked.now) (instant now.now) file.now text.now) result }
+{
+    match S::open(alloc, text) {
+        Ok(source) => match reply(alloc, &source, asked.form, now, &asked.task) {
+            Ok(bytes) => Ok(bytes),
+            Err(Refusal::Why(words)) => Err(AnswerFault::Line(told_line(alloc, &words)?)),
+            Err(Refusal::NoMemory) => Err(AnswerFault::NoMemory),
+        },
+        Err(Refusal::Why(why)) => {
+            let words = name_words(alloc, file, &why)?;
+            Err(AnswerFault::Line(told_line(alloc, &words)?))
+        }
+        Err(Refusal::NoMemory) => Err(AnswerFault::NoMemory),
     }
 }
 
@@ -199,18 +246,11 @@ pub fn answer_over<S: ZoneSource>(
     text: &[u8],
 ) -> Result<Vec<u8>, AnswerFault>
     requires { length text.now ≤ 16777216 }
-    ensures { IsDue (IsDueOver S.reads S.unread S.found S.entries S.files S.strings S.trees (words_shown asked.now) (instant now.now) file.now text.now) result }
+    ensures { IsDue (IsDueOver S.reads S.unread S.found S.entries S.files S.strings S.trees S.forms (words_shown asked.now) (instant now.now) file.now text.now) result }
 {
-    match S::open(alloc, text) {
-        Ok(source) => match reply(alloc, &source, asked.form, now, &asked.task) {
-            Ok(bytes) => Ok(bytes),
-            Err(Refusal::Why(words)) => Err(AnswerFault::Line(told_line(alloc, &words)?)),
-            Err(Refusal::NoMemory) => Err(AnswerFault::NoMemory),
-        },
-        Err(Refusal::Why(why)) => {
-            let words = name_words(alloc, file, &why)?;
-            Err(AnswerFault::Line(told_line(alloc, &words)?))
-        }
-        Err(Refusal::NoMemory) => Err(AnswerFault::NoMemory),
+    if asks_form(&asked.task) {
+        form_due::<S>(alloc, file, text)
+    } else {
+        reply_due::<S>(alloc, asked, now, file, text)
     }
 }

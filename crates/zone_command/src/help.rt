@@ -20,6 +20,7 @@ pub const HELP: &str = "zone [OPTIONS] COMMAND .. answers about time zones:
   log NAME              standard input with local times in place of its times
   string NAME           the string that carries a zone on for ever
   file NAME, tree       one compiled file; all of them, as a tar archive
+  plain FILE            a source in the form that other programs read
   chart NAME.. YEAR     a picture of offsets over a year
 zone COMMAND --help tells more of each.
 A TIME is now, @1729989000 or 2024-10-27T02:30:00+02:00, a TEXT 2024-10-27 02:30, maybe with seconds.
@@ -89,7 +90,8 @@ A time is 2024-10-27T02:30:00+02:00, @1729989000, or a number of 9 to 11 digits 
 
 /// What `zone tree --help` writes.
 pub const HELP_TREE: &str =
-    "zone tree writes a tar archive of all compiled files and links, right in any year.
+    "zone tree [--to-2099] writes a tar archive of all compiled files and links, right in any year.
+--to-2099  each file has the changes of the years to 2099, and a string that carries on from there
 ";
 
 /// What `zone file --help` writes.
@@ -104,6 +106,12 @@ pub const HELP_STRING: &str =
 /// What `zone chart --help` writes.
 pub const HELP_CHART: &str =
     "zone chart NAME.. YEAR writes a picture of the offsets of one to eight zones over a year, as SVG.
+";
+
+/// What `zone plain --help` writes.
+pub const HELP_PLAIN: &str =
+    "zone plain FILE writes the source in FILE, in any form that zic reads, in plain form: words in
+full, one space between fields, rules first, then zones, then links. It takes no --source.
 ";
 
 /// The help of a command, or of all.
@@ -123,6 +131,7 @@ fn help_text(command: Option<Command>) -> &'static str
         Some(Command::File) => HELP_FILE,
         Some(Command::String) => HELP_STRING,
         Some(Command::Chart) => HELP_CHART,
+        Some(Command::Plain) => HELP_PLAIN,
         None => HELP,
     }
 }

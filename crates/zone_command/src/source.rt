@@ -1,6 +1,6 @@
 //! What reads sources.
-ghost use Rattle.std.specs.Prelude.{◌≡◌, ℕ, List, ◌≤◌, length, map, Ok, Err, IfOk, IfErr};
-ghost use Rattle.zone_command.specs.{Answers.{Answer, IsGiven}, Named.{Found}, Refusals.{IsTold}};
+ghost use Rattle.std.specs.Prelude.{◌≡◌, ℕ, Bool, List, ◌≤◌, length, map, Ok, Err, IfOk, IfErr};
+ghost use Rattle.zone_command.specs.{Answers.{Answer, IsAnswer, IsGiven}, Named.{Found}, Refusals.{IsTold}};
 ghost use Rattle.zone_displays.specs.SeenNames.{NameSeen, name_seen};
 
 use std::alloc::{AllocError, Global};
@@ -50,8 +50,11 @@ pub trait ZoneSource: Drop {
     /// The same of a line with the string that carries it on.
     ghost strings: { Self → List ℕ → Answer → Type 0 };
 
-    /// The same of the archive of all compiled files.
-    ghost trees: { Self → Answer → Type 0 };
+    /// The same of the archive of all compiled files, to the end of 2099 or for ever.
+    ghost trees: { Self → Bool → Answer → Type 0 };
+
+    /// The plain form of a text, or the words that tell why it has none.
+    ghost forms: { List ℕ → Answer };
 
     /// Reads a source, of at most 16,777,216 bytes.
     ///
@@ -96,11 +99,20 @@ pub trait ZoneSource: Drop {
     fn string(&self, alloc: Global, name: &str) -> Result<Vec<u8>, Refusal>
         ensures { IsGiven (strings self.now name.now) result };
 
-    /// The archive of all compiled files.
+    /// The archive of all compiled files: of zones to the end of 2099, or for ever.
     ///
     /// # Errors
     ///
     /// Why there is none, or want of memory.
-    fn tree(&self, alloc: Global) -> Result<Vec<u8>, Refusal>
-        ensures { IsGiven (trees self.now) result };
+    fn tree(&self, alloc: Global, to_2099: bool) -> Result<Vec<u8>, Refusal>
+        ensures { IsGiven (trees self.now to_2099) result };
+
+    /// The plain form of a text, of at most 16,777,216 bytes.
+    ///
+    /// # Errors
+    ///
+    /// Why it has none, or want of memory.
+    fn plain_form(alloc: Global, text: &[u8]) -> Result<Vec<u8>, Refusal>
+        requires { length text.now ≤ 16777216 }
+        ensures { IsAnswer (forms text.now) result };
 }

@@ -3,7 +3,6 @@ pub mod ReadingLemmas
 pub mod MetLemmas
 pub mod UnderLemmas
 pub mod PlainLemmas
-pub mod RespondLemmas
 pub mod TargetLaws
 pub mod LeadsLaws
 pub mod SettledLaws

@@ -19,9 +19,6 @@ pub mod ReadBack
 pub mod WrittenLines
 pub mod Rebuilt
 pub mod Kept
-pub mod Causes
-pub mod Ends
-pub mod Starts
 -- Laws: what a caller may use.
 pub mod MadeNameLaws
 pub mod PairLaws

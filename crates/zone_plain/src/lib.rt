@@ -7,8 +7,6 @@ mod links;
 mod made;
 mod offsets;
 mod parts;
-mod respond;
-mod running;
 mod whole;
 
 pub use laws::{
@@ -16,10 +14,5 @@ pub use laws::{
     settled_links, written_is_read,
 };
 pub use offsets::write_out;
-pub use running::{run_plain, start_plain};
 pub use whole::plain;
 pub use zone_plain_base::PlainFault;
-pub use zone_source::{
-    Failed, FileShelf, MemShelf, MemSink, Shelf, Sink, Source, Started, Status, StdSink, SureShelf,
-    SureSink,
-};

@@ -8,3 +8,5 @@ pub mod ViewLemmas
 pub mod WholeLemmas
 mod SourceRows
 mod ViewRows
+pub mod EverLemmas
+mod EverRows

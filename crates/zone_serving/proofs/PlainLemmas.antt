@@ -3,8 +3,7 @@ use Rattle.std.proofs.{Common.{◌≡◌, ℕ, ℤ, pos, ◌-ℤ◌, ◌*ℤ◌,
 use Rattle.std.specs.Prelude.{int_lt}
 use Rattle.basics.specs.{ComparisonLaws.{lt_from_fail}, SignedLaws.{signed}}
 use Rattle.zone_answers.specs.{Due.{answer_line}, Faults.{request_refusal}, Found.{found_in_table, to_2099}, Requests.{Request, at, local, request_of}, SameDays.{IsAnswered, IsBefore}}
-use Rattle.zone_ever.specs.Readings.{for_ever}
-use Rattle.zone_serving.specs.{Plain.{plain_answer, year_2100}, PlainLaws.{Matches, as_zone_answers}}
+use Rattle.zone_serving.specs.{EverReadings.{for_ever}, Plain.{plain_answer, year_2100}, PlainLaws.{Matches, as_zone_answers}}
 use Rattle.zone_table.specs.declared.table.Table.{Table}
 use Rattle.civil_base.specs.{DateTimes.{instant, local_of, offset_of}, Instants.{instant_at}, declared.offset_date_time.OffsetDateTime.{OffsetDateTime}}
 

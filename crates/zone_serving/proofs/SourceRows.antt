@@ -1,9 +1,11 @@
 -- What is told of sources, in words: each cause, and which line it is told of.
-use Rattle.std.{proofs.Common.{◌≡◌, refl, inl, inr, map, ℕ, Bool, true, false, List, [], ◌∷◌}, specs.Prelude.{codes}, specs.Fmt.{digits}, specs.Prelude.{String}, specs.declared.alloc.Global.{Global}}
+use Rattle.std.{proofs.Common.{◌≡◌, refl, inl, inr, map, ℕ, Bool, true, false, List, [], ◌∷◌}, specs.Prelude.{codes, Ok, Err}, specs.Fmt.{digits}, specs.Prelude.{String}, specs.declared.alloc.Global.{Global}}
 use Rattle.sefunjaro.specs.declared.any_source.AnySourceFault.TheVariants as source
+use Rattle.zone_plain.specs.Plain.{plain_of}
+use Rattle.zone_plain_base.specs.LineFaults.{at, bad_line, too_long}
 use Rattle.zone_plain_lines.specs.declared.cause.PlainCause.{PlainCause}
 use Rattle.zone_plain_lines.specs.declared.cause.PlainCause.TheVariants as plain
-use Rattle.zone_serving.specs.{Causes.{cause_words, form_words, join_words, kind_words, line_words}, Sources.{fault_words, is_compiled, HasFault, IsUnread}, Views.{schedule_words}, Wholes.{changes_words, file_words, tail_words, why_words}}
+use Rattle.zone_serving.specs.{Causes.{cause_words, form_words, join_words, kind_words, line_words}, Sources.{fault_words, form_due, form_of, is_compiled, HasFault, IsUnread}, Views.{schedule_words}, Wholes.{changes_words, file_words, tail_words, why_words}}
 use Rattle.zone_source.specs.declared.error.{BuildKind.{BuildKind}}
 use Rattle.zone_source.specs.declared.error.BuildKind.TheVariants as join
 use Rattle.zone_source.specs.declared.error.SourceError.TheVariants as error
@@ -150,6 +152,22 @@ worked_file = refl
 worked_compiled : map is_compiled (codes "TZif" ∷ codes "TZif2 and more" ∷ codes "TZi" ∷ codes "tzif2" ∷ codes " TZif" ∷ [] ∷ [])
     ≡ true ∷ true ∷ false ∷ false ∷ false ∷ false ∷ []
 worked_compiled = refl
+
+-- a plain form, or why there is none, as of a source
+worked_forms : map form_due (Ok (codes "a") ∷ Err (bad_line (at 12 plain.Month)) ∷ Err too_long ∷ [])
+    ≡ Ok (codes "a") ∷ Err (codes "line 12 of this source can't be read: a month of it is none, or two")
+    ∷ Err (codes "this source has more than 16,777,216 bytes in plain form") ∷ []
+unfolding digits line_words
+worked_forms = refl
+
+-- a compiled file has none, and of any other text it is that of its lines
+form_of_compiled : (text : List ℕ) → is_compiled text ≡ true → form_of text ≡ Err (codes "this is a compiled file, and a source is wanted")
+unfolding form_of
+form_of_compiled text is = rw is refl
+
+form_of_text : (text : List ℕ) → is_compiled text ≡ false → form_of text ≡ form_due (plain_of text)
+unfolding form_of
+form_of_text text is = rw is refl
 
 -- a compiled file is told as one, and any other text by its fault
 compiled_told : (text why : List ℕ) → is_compiled text ≡ true → IsUnread text why → why ≡ codes "this is a compiled file, and a source is wanted"

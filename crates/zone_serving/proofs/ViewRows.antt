@@ -15,7 +15,7 @@ use Rattle.zone_spans.specs.{Windows.{line_end}, declared.fault.SpanFault.TheVar
 use Rattle.zone_spans.specs.declared.span.FixedTimespanSet as spans
 use Rattle.zone_table.specs.{Formats.{abbreviation}, Moments.{instant_of}, declared.table.Table.{Table}, declared.zone.Format.TheVariants.{Constant}, declared.zone.Saving.{Saving}, declared.zone.Saving.TheVariants.{NoSaving, OneOff}}
 use Rattle.zone_table.specs.declared.zone.ZoneInfo.{ZoneInfo}
-use Rattle.zone_tree.specs.declared.refusal.Why.{Why}
+use Rattle.zone_tree.specs.{Names.{finds_in_table}, Trees.{tree_by}, declared.refusal.Why.{Why}}
 use Rattle.zone_values.specs.{Days.{is_in_year, named_day}, declared.change.ChangeTime.{ChangeTime}, declared.change.ChangeTime.TheVariants.{UntilTime, UntilYear}, declared.day.DaySpec.TheVariants.{Ordinal}, declared.month.Month.TheVariants.{January}}
 use Rattle.zone_values.specs.declared.{time.TimeSpec.TheVariants.{Zero}, time.TimeType.TheVariants.{Standard}, year.Year.TheVariants.{Number}}
 
@@ -159,9 +159,14 @@ module _ (table : Table) (name : List ℕ) (Says : FixedTimespanSet → Answer �
       no_bytes e = cc
 
 -- a tree is refused for a name, with its words
-tree_refused : (release : Option (List ℕ)) (table : Table) (words : List ℕ) → IsTreeOf release table (Err words)
+tree_refused : (release : Option (List ℕ)) (table : Table) (words : List ℕ) → IsTreeOf release table false (Err words)
     → (name : List ℕ) × (why : Why) × (words ≡ ((34 ∷ name) ++ 34 ∷ codes ": ") ++ why_words why)
 tree_refused release table words is = (is.0, is.1, is.3)
+
+-- to 2099 it is the archive of what the table finds
+tree_to_2099 : (release : Option (List ℕ)) (table : Table) (bytes : List ℕ) → IsTreeOf release table true (Ok bytes)
+    → tree_by release (finds_in_table table) ≡ Ok bytes
+tree_to_2099 release table bytes is = is
 
 -- a string is a line
 string_ends : (set : FixedTimespanSet) (bytes : List ℕ) → IsStringOf set (Ok bytes) → (text : List ℕ) × (bytes ≡ text ++ 10 ∷ [])

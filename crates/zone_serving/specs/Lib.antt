@@ -1,4 +1,6 @@
 -- Definitions: what public clauses say.
+pub mod EverReadings
+pub mod EverRefused
 pub mod Days
 pub mod Kept
 pub mod KeptLaws

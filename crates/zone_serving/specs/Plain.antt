@@ -2,10 +2,9 @@
 use Rattle.std.specs.{Prelude.{ℕ, Bool, List, [], ◌∷◌, ◌++◌, Option, Some, None, Ok, Err, ℤ, pos, int_lt, codes, if◌then◌else◌}, Str.{is_utf8}}
 use Rattle.zone_answers.specs.{Due.{answer_text, shown_at}, Faults.{has_dates}, Found.{Cause, Found, Reading, found_in_table, to_2099, unknown_zone, bad_schedule, offset_range, rules_end}, Requests.{Request, at, local, name_of, request_of}}
 use Rattle.zone_command.specs.{Answers.{Answer}, Refusals.{fault_words, name_words}}
-use Rattle.zone_ever.specs.Readings.{for_ever}
 use Rattle.zone_pieces.specs.Replies.{Replies}
 use Rattle.zone_replies.specs.declared.fault.ReplyFault.TheVariants.{OutOfYears, Untold}
-use Rattle.zone_serving.specs.{Streams.{is_fault, response_of}, Views.{range_words, schedule_words, unknown_words}}
+use Rattle.zone_serving.specs.{EverReadings.{for_ever}, Streams.{is_fault, response_of}, Views.{range_words, schedule_words, unknown_words}}
 use Rattle.zone_table.specs.declared.table.Table.{Table}
 
 -- 2100-01-01 00:00:00, in nanoseconds

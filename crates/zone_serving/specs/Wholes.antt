@@ -1,5 +1,5 @@
 -- What is given of a zone as a whole, its file and its string, and of all zones, the tree.
-use Rattle.std.specs.Prelude.{◌≡◌, ◌⊎◌, ℕ, ℤ, List, [], ◌∷◌, ◌++◌, Option, Some, None, Ok, Err, codes}
+use Rattle.std.specs.Prelude.{◌≡◌, ◌⊎◌, ℕ, ℤ, Bool, true, false, Result, List, [], ◌∷◌, ◌++◌, Option, Some, None, Ok, Err, codes}
 use Rattle.tz_zone.specs.declared.set.FixedTimespanSet.{FixedTimespanSet}
 use Rattle.zone_command.specs.{Answers.{Answer}, Refusals.{name_words}}
 use Rattle.zone_serving.specs.Views.{ever_found, found_in, range_words, schedule_words}
@@ -9,7 +9,7 @@ use Rattle.zone_tzif.specs.{Tails.{IsFaultForEver, IsTailForEver}, declared.outc
 use Rattle.zone_tzif.specs.declared.outcome.EverTailFault.TheVariants as tail
 use Rattle.zone_tzif.specs.declared.ever.EverFileFault.TheVariants as file
 use Rattle.zone_tzif.specs.declared.file.FileFault.TheVariants as changes
-use Rattle.zone_tree.specs.{EverTrees.{OfTree}, declared.refusal.Why.{Why}, Trees.{refused}}
+use Rattle.zone_tree.specs.{EverTrees.{OfTree}, Names.{finds_in_table}, Trees.{Refused, refused, tree_by}, declared.refusal.Why.{Why}}
 use Rattle.zone_tree.specs.declared.refusal.Why.TheVariants as why
 use Rattle.zone_tzif_core.specs.declared.values.WriteFault.TheVariants as write
 
@@ -89,8 +89,16 @@ why_words why.Link = codes "this link leads to no zone"
 why_words why.Name = codes "an archive has no place for this name"
 why_words why.Size = codes "the file of this zone is too long for an archive"
 
--- the archive of all files for ever, or the first name without an entry
-abbrev pub IsTreeOf : Option (List ℕ) → Table → Answer → Type 0
-IsTreeOf release table (Ok bytes) = OfTree release table (λ tree. tree ≡ Ok bytes)
-IsTreeOf release table (Err words) =
-    (name : List ℕ) × (why : Why) × OfTree release table (λ tree. tree ≡ Err (refused name why)) × (words ≡ name_words name (why_words why))
+-- the archive of all files, of which this tells, or the first name without an entry
+abbrev pub IsTreeBy : ((Result (List ℕ) Refused → Type 0) → Type 0) → Answer → Type 0
+IsTreeBy Of (Ok bytes) = Of (λ tree. tree ≡ Ok bytes)
+IsTreeBy Of (Err words) = (name : List ℕ) × (why : Why) × Of (λ tree. tree ≡ Err (refused name why)) × (words ≡ name_words name (why_words why))
+
+-- that of zones to the end of 2099
+abbrev pub OfTreeTo2099 : Option (List ℕ) → Table → (Result (List ℕ) Refused → Type 0) → Type 0
+OfTreeTo2099 release table Is = Is (tree_by release (finds_in_table table))
+
+-- to the end of 2099, or for ever
+abbrev pub IsTreeOf : Option (List ℕ) → Table → Bool → Answer → Type 0
+IsTreeOf release table true = IsTreeBy (OfTreeTo2099 release table)
+IsTreeOf release table false = IsTreeBy (OfTree release table)

@@ -3,6 +3,8 @@
 #![tactic(auto)]
 
 mod answers;
+mod ever_zone;
+mod forms;
 mod kept;
 mod log_texts;
 mod over;

@@ -114,7 +114,7 @@ impl<S: ZoneSource + PlainSource> Answerer for OverSource<S> {
     ghost use Rattle.zone_command.specs.Replies.{IsDueOver};
     ghost use Rattle.zone_serving.specs.Makes.{IsMadeOver};
 
-    ghost due = { IsDueOver S.reads S.unread S.found S.entries S.files S.strings S.trees };
+    ghost due = { IsDueOver S.reads S.unread S.found S.entries S.files S.strings S.trees S.forms };
 
     ghost makes = { IsMadeOver S.plainly S.reads S.unplainly S.unread S.found S.plain };
 

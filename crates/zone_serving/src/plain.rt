@@ -5,6 +5,7 @@ ghost use Rattle.zone_answers.specs.{Asked.{asked}, AskedLaws.{Asks}, Faults.{zo
 ghost use Rattle.zone_command.specs.Refusals.{IsTold};
 ghost use Rattle.zone_serving.specs.{Days.{IsDayOf}, Kept.{AreOf}, KeptLaws.{AreOf-prop, IsDayOf-prop}, Plain.{found_answer, is_to_2099, read_answer, shown_answer}, Told.{IsPut}};
 
+use crate::ever_zone::EverZone;
 use crate::source::unknown_words;
 use crate::source_words::schedule_words;
 use crate::words::refused;
@@ -15,7 +16,6 @@ use zone_answers::{
     AnswerError, OpenedZone, ReadingError, Request, SameDay, Spelled, Zones, are_alike,
 };
 use zone_command::{Refusal, refusal_of};
-use zone_ever::EverZone;
 use zone_pieces::Responder;
 
 /// 2100-01-01 00:00:00, in nanoseconds.
@@ -153,8 +153,7 @@ impl<'s> PlainStream<'s> {
     ghost use Rattle.std.specs.Prelude.{◌≡◌, IfOk, IsTrue, None, Ok, Some, false};
     ghost use Rattle.sefunjaro.specs.Sources.{table_in};
     ghost use Rattle.zone_answers.specs.{Asked.{asked}, AskedLaws.{Asks}, Found.{found_in_table, to_2099}, Requests.{IsSpelled, request_of}, SameDays.{IsAdded}};
-    ghost use Rattle.zone_ever.specs.Readings.{for_ever};
-    ghost use Rattle.zone_serving.specs.{Days.{IsDayOf}, Plain.{asked_answer, plain_answer, plain_replies, read_answer, year_2100}, Told.{IsPut}};
+    ghost use Rattle.zone_serving.specs.{Days.{IsDayOf}, EverReadings.{for_ever}, Plain.{asked_answer, plain_answer, plain_replies, read_answer, year_2100}, Told.{IsPut}};
 
     /// What answers over that source. It takes no memory.
     pub(crate) fn new(alloc: Global, source: &'s OpenSource) -> PlainStream<'s>

@@ -1,26 +1,28 @@
 //! A source in any form that `zic` reads: its names, its zones, their files and strings, and the tree.
 ghost use Rattle.std.specs.Prelude.{◌≡◌, ℕ, List, map, option_map, Ok, Err, IfErr, IfOk, IfSome};
-ghost use Rattle.sefunjaro.specs.{Replies.{reply_view}, Sources.{table_in}, Zones.{ever_in, set_in}};
-ghost use Rattle.tz_ever.specs.EverShown.{ever_seen};
+ghost use Rattle.sefunjaro.specs.{Replies.{reply_view}, Sources.{release_in, table_in}, Zones.{all_in, ever_in, recurrence_in}};
+ghost use Rattle.tz_ever.specs.ZoneShown.{zone_set_of};
 ghost use Rattle.tz_zone.specs.Sets.{IsAccepted, schedule_of};
 ghost use Rattle.zone_command.specs.{Answers.{IsGiven}, Refusals.{IsTold}};
 ghost use Rattle.zone_displays.specs.SeenNames.{name_seen};
-ghost use Rattle.zone_serving.specs.{Sources.{is_compiled}, Views.{IsToldAs, entries_of, entry_of, ever_found, found_in, unknown_words}, Wholes.{IsFileOf, IsStringOf, IsWhole}};
+ghost use Rattle.zone_serving.specs.{Views.{IsToldAs, entries_of, entry_of, ever_found, found_in, unknown_words}, Wholes.{IsFileOf, IsStringOf, IsTreeBy, IsWhole, OfTreeTo2099}};
+ghost use Rattle.zone_tree.specs.EverTrees.{OfTree};
 ghost use Rattle.zone_table.specs.declared.table.Table.{Table};
 
+use crate::forms::{COMPILED, form_of, is_compiled};
 use crate::over::PlainSource;
 use crate::plain::PlainStream;
 use crate::source_words::{fault_words, file_words, schedule_words, tail_words, why_words};
 use sefunjaro::{
-    AnySourceFault, EverFileFault, EverSet, EverTailFault, OpenFault, OpenSource, OpenZone, Table,
-    TreeFault, ZoneFault, tail_for_ever, tzif_for_ever,
+    AnySourceFault, EverFileFault, EverTailFault, OpenFault, OpenSource, OpenZone, Table,
+    TreeFault, ZoneFault, ZoneSet, tail_for_ever, tzif_for_ever,
 };
 use std::alloc::{AllocError, Global};
 use zone_command::{Refusal, ZoneSource, name_words};
 use zone_displays::{NameEntry, add_unknown, near_names};
 use zone_outside::Exchange;
 use zone_pieces::{StreamEnd, run_stream};
-use zone_tree::tree_of_table_for_ever;
+use zone_tree::{tree_of_table, tree_of_table_for_ever};
 use zone_tzif::FileFault;
 
 /// A source in any form, whose zones go on for ever where their lines do.
@@ -31,7 +33,7 @@ pub struct AnySource {
 
 impl ZoneSource for AnySource {
     ghost use Rattle.sefunjaro.specs.{AnySources.{IsAnySource}, Sources.{release_in, table_in}};
-    ghost use Rattle.zone_serving.specs.{Sources.{IsUnread}, Views.{entries_of, found_in}, Wholes.{IsFileOf, IsStringOf, IsTreeOf, IsWhole}};
+    ghost use Rattle.zone_serving.specs.{Sources.{IsUnread, form_of}, Views.{entries_of, found_in}, Wholes.{IsFileOf, IsStringOf, IsTreeOf, IsWhole}};
 
     type Zone = OpenZone;
 
@@ -47,12 +49,13 @@ impl ZoneSource for AnySource {
 
     ghost strings = { λ source. IsWhole IsStringOf (table_in source.source) };
 
-    ghost trees = { λ source. IsTreeOf (release_in source.source) (table_in source.source) };
+    ghost trees = { λ source to_2099. IsTreeOf (release_in source.source) (table_in source.source) to_2099 };
+
+    ghost forms = { form_of };
 
     fn open(alloc: Global, text: &[u8]) -> Result<AnySource, Refusal> {
         if is_compiled(text) {
-            let why = b"this is a compiled file, and a source is wanted".to_vec(alloc)?;
-            return Err(Refusal::Why(why));
+            return Err(Refusal::Why(COMPILED.to_vec(alloc)?));
         }
         match OpenSource::open(alloc, text) {
             Ok(source) => Ok(AnySource { source }),
@@ -79,15 +82,16 @@ impl ZoneSource for AnySource {
         string_in(alloc, &zone)
     }
 
-    fn tree(&self, alloc: Global) -> Result<Vec<u8>, Refusal> {
-        match tree_of_table_for_ever(alloc, self.source.release(), self.source.table()) {
-            Ok(bytes) => Ok(bytes),
-            Err(TreeFault::Refused(name, why)) => {
-                Err(Refusal::Why(name_words(alloc, name.as_str(), why_words(why))?))
-            }
-            Err(TreeFault::Source(_)) => Err(Refusal::NoMemory),
-            Err(TreeFault::NoMemory) => Err(Refusal::NoMemory),
+    fn tree(&self, alloc: Global, to_2099: bool) -> Result<Vec<u8>, Refusal> {
+        if to_2099 {
+            tree_to_2099(alloc, &self.source)
+        } else {
+            tree_for_ever(alloc, &self.source)
         }
+    }
+
+    fn plain_form(alloc: Global, text: &[u8]) -> Result<Vec<u8>, Refusal> {
+        form_of(alloc, text)
     }
 }
 
@@ -117,13 +121,6 @@ impl PlainSource for AnySource {
 
 /// What is told of a zone that doesn't go on.
 const ENDING: &[u8] = b"the rules of this zone end, so it doesn't go on for ever";
-
-/// Whether a text begins as compiled files do.
-fn is_compiled(text: &[u8]) -> bool
-    ensures { result ≡ is_compiled text.now }
-{
-    text.starts_with(b"TZif")
-}
 
 /// A name, and the name that it leads to where it is a link's.
 fn entry_of<'s>(table: &'s Table, name: &'s str) -> NameEntry<'s>
@@ -169,7 +166,7 @@ pub(crate) fn unknown_words(
 
 /// What goes on for ever has offsets of less than 26 hours.
 fn accepted_for_ever(zone: &OpenZone)
-    ensures { IfSome (ever_in zone.now) (λ ever. IsAccepted (schedule_of (ever_seen ever))) }
+    ensures { IfSome (ever_in zone.now) (λ ever. IsAccepted (schedule_of (zone_set_of ever))) }
 {
     match zone.for_ever() {
         Some(ever) => {
@@ -181,8 +178,8 @@ fn accepted_for_ever(zone: &OpenZone)
 
 /// The zone of a name, or the fault that keeps it from being asked.
 fn opened(alloc: Global, source: &OpenSource, name: &str) -> Result<OpenZone, ZoneFault>
-    ensures ok { IfOk result (λ zone. found_in (table_in source.now) name.now ≡ Ok (reply_view (set_in zone) (ever_in zone))) }
-    ensures ever { IfOk result (λ zone. ever_found (table_in source.now) name.now ≡ option_map ever_seen (ever_in zone)) }
+    ensures ok { IfOk result (λ zone. found_in (table_in source.now) name.now ≡ Ok (reply_view (recurrence_in zone) (all_in zone))) }
+    ensures ever { IfOk result (λ zone. ever_found (table_in source.now) name.now ≡ option_map zone_set_of (ever_in zone)) }
     ensures err { IfErr result (IsToldAs (table_in source.now) name.now) }
 {
     match source.zone(alloc, name) {
@@ -196,8 +193,8 @@ fn opened(alloc: Global, source: &OpenSource, name: &str) -> Result<OpenZone, Zo
 
 /// The zone of a name.
 fn zone_of(alloc: Global, source: &OpenSource, name: &str) -> Result<OpenZone, Refusal>
-    ensures ok { IfOk result (λ zone. found_in (table_in source.now) name.now ≡ Ok (reply_view (set_in zone) (ever_in zone))) }
-    ensures ever { IfOk result (λ zone. ever_found (table_in source.now) name.now ≡ option_map ever_seen (ever_in zone)) }
+    ensures ok { IfOk result (λ zone. found_in (table_in source.now) name.now ≡ Ok (reply_view (recurrence_in zone) (all_in zone))) }
+    ensures ever { IfOk result (λ zone. ever_found (table_in source.now) name.now ≡ option_map zone_set_of (ever_in zone)) }
     ensures err { IfErr result (IsTold (λ why. found_in (table_in source.now) name.now ≡ Err why)) }
 {
     match opened(alloc, source, name) {
@@ -215,8 +212,8 @@ fn zone_of(alloc: Global, source: &OpenSource, name: &str) -> Result<OpenZone, R
 
 /// The file of a zone, if it goes on.
 fn file_in(alloc: Global, zone: &OpenZone) -> Result<Vec<u8>, Refusal>
-    ensures { (table : Table) (name : List ℕ) → found_in table name ≡ Ok (reply_view (set_in zone.now) (ever_in zone.now))
-        → ever_found table name ≡ option_map ever_seen (ever_in zone.now) → IsGiven (IsWhole IsFileOf table name) result }
+    ensures { (table : Table) (name : List ℕ) → found_in table name ≡ Ok (reply_view (recurrence_in zone.now) (all_in zone.now))
+        → ever_found table name ≡ option_map zone_set_of (ever_in zone.now) → IsGiven (IsWhole IsFileOf table name) result }
 {
     match zone.for_ever() {
         Some(ever) => file_of(alloc, ever),
@@ -225,8 +222,8 @@ fn file_in(alloc: Global, zone: &OpenZone) -> Result<Vec<u8>, Refusal>
 }
 
 /// The file of a zone that goes on.
-fn file_of(alloc: Global, ever: &EverSet) -> Result<Vec<u8>, Refusal>
-    ensures { IsGiven (IsFileOf (ever_seen ever.now)) result }
+fn file_of(alloc: Global, ever: &ZoneSet) -> Result<Vec<u8>, Refusal>
+    ensures { IsGiven (IsFileOf (zone_set_of ever.now)) result }
 {
     match tzif_for_ever(alloc, ever) {
         Ok(file) => Ok(file),
@@ -238,8 +235,8 @@ fn file_of(alloc: Global, ever: &EverSet) -> Result<Vec<u8>, Refusal>
 
 /// The line of the string of a zone, if it goes on.
 fn string_in(alloc: Global, zone: &OpenZone) -> Result<Vec<u8>, Refusal>
-    ensures { (table : Table) (name : List ℕ) → found_in table name ≡ Ok (reply_view (set_in zone.now) (ever_in zone.now))
-        → ever_found table name ≡ option_map ever_seen (ever_in zone.now) → IsGiven (IsWhole IsStringOf table name) result }
+    ensures { (table : Table) (name : List ℕ) → found_in table name ≡ Ok (reply_view (recurrence_in zone.now) (all_in zone.now))
+        → ever_found table name ≡ option_map zone_set_of (ever_in zone.now) → IsGiven (IsWhole IsStringOf table name) result }
 {
     match zone.for_ever() {
         Some(ever) => string_of(alloc, ever),
@@ -248,8 +245,8 @@ fn string_in(alloc: Global, zone: &OpenZone) -> Result<Vec<u8>, Refusal>
 }
 
 /// The line of the string that carries a zone on.
-fn string_of(alloc: Global, ever: &EverSet) -> Result<Vec<u8>, Refusal>
-    ensures { IsGiven (IsStringOf (ever_seen ever.now)) result }
+fn string_of(alloc: Global, ever: &ZoneSet) -> Result<Vec<u8>, Refusal>
+    ensures { IsGiven (IsStringOf (zone_set_of ever.now)) result }
 {
     match tail_for_ever(alloc, ever) {
         Ok(tail) => {
@@ -259,5 +256,33 @@ fn string_of(alloc: Global, ever: &EverSet) -> Result<Vec<u8>, Refusal>
         }
         Err(EverTailFault::NoMemory) => Err(Refusal::NoMemory),
         Err(fault) => Err(Refusal::Why(tail_words(fault).to_vec(alloc)?)),
+    }
+}
+
+/// The archive of all files, of zones to the end of 2099.
+fn tree_to_2099(alloc: Global, source: &OpenSource) -> Result<Vec<u8>, Refusal>
+    ensures { IsGiven (IsTreeBy (OfTreeTo2099 (release_in source.now) (table_in source.now))) result }
+{
+    match tree_of_table(alloc, source.release(), source.table()) {
+        Ok(bytes) => Ok(bytes),
+        Err(TreeFault::Refused(name, why)) => {
+            Err(Refusal::Why(name_words(alloc, name.as_str(), why_words(why))?))
+        }
+        Err(TreeFault::Source(_)) => Err(Refusal::NoMemory),
+        Err(TreeFault::NoMemory) => Err(Refusal::NoMemory),
+    }
+}
+
+/// The same of zones that go on for ever.
+fn tree_for_ever(alloc: Global, source: &OpenSource) -> Result<Vec<u8>, Refusal>
+    ensures { IsGiven (IsTreeBy (OfTree (release_in source.now) (table_in source.now))) result }
+{
+    match tree_of_table_for_ever(alloc, source.release(), source.table()) {
+        Ok(bytes) => Ok(bytes),
+        Err(TreeFault::Refused(name, why)) => {
+            Err(Refusal::Why(name_words(alloc, name.as_str(), why_words(why))?))
+        }
+        Err(TreeFault::Source(_)) => Err(Refusal::NoMemory),
+        Err(TreeFault::NoMemory) => Err(Refusal::NoMemory),
     }
 }

@@ -13,7 +13,6 @@ pub mod Responses
 pub mod FileWords
 pub mod Runs
 pub mod Starts
-pub mod OneFile
 -- Laws: what a caller may use.
 pub mod LineLaws
 pub mod ReleaseLaws

@@ -7,31 +7,29 @@
 
 mod error;
 mod fault_line;
+mod files_program;
 mod laws;
 pub mod lines;
 mod no_input;
-mod one_file;
 mod release;
 mod response;
 mod running;
 mod starting;
 mod table;
-mod words;
 
 pub use error::{BuildKind, SourceError};
 pub use fault_line::{FaultText, write_fault_line};
+pub use files_program::{FilesProgram, start_files_run};
 pub use laws::names_itself;
 pub use lines::{LineList, Lines, text_of};
 pub use no_input::NoInput;
-pub use one_file::{FileProgram, FilesProgram, run_file, start_file, start_files_run};
 pub use release::{put_release_line, release_of};
-pub use response::{Response, fault_bytes, source_fault_bytes};
+pub use response::{Response, source_fault_bytes};
 pub use running::{Answered, FileTask, Status, TextAnswers, run_over, run_task, run_task_surely};
 pub use starting::{
     BareProgram, SourceProgram, Started, after_name, all_words, start_run, start_source_run,
 };
 pub use table::read_table;
-pub use words::file_named;
 pub use zone_outside::{
     Failed, FileShelf, LIMIT, MemShelf, MemSink, MemSource, ReadEnd, Shelf, Sink, Source, StdSink,
     StdSource, SureShelf, SureSink, SureSource, fetch_all, read_all, write_all,

@@ -16,11 +16,7 @@ pub enum Response {
 }
 
 /// A line that tells a fault of a source, with its LF. Side, group and cause have at most 40 bytes together.
-///
-/// # Errors
-///
-/// `AllocError` where memory runs out.
-pub fn fault_bytes(alloc: Global, text: &FaultText) -> Result<Vec<u8>, AllocError>
+fn fault_bytes(alloc: Global, text: &FaultText) -> Result<Vec<u8>, AllocError>
     requires { IsShort text.now }
     ensures { IfOk result (λ line. line.items ≡ line_shown text.now ++ 10 ∷ []) }
 {

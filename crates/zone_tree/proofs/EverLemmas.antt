@@ -1,14 +1,13 @@
--- The archive of a table's zones for ever, and what a run writes of it.
+-- The archive of a table's zones for ever.
 use Rattle.std.proofs.Common.{◌≡◌, ℕ, ◌+◌, ◌<◌, ◌≤◌, Bool, true, false, cond, ◌||◌, List, [], ◌∷◌, ◌++◌, map, drop, length, get_or, All, Option, Some, None, Result, Ok, Err, MatchOption, refl, sym, ap, ◌∙◌, subst, arith, append_assoc, append-nil, suc, pos}
 use Rattle.std.proofs.lemmas.List.{drop_more, drop_all, map-append, Elements.{All-nil, All-cons, All-append}}
 use Rattle.std.specs.{Prelude.{bytes_eq}, Borrow.{Bor}, FinMap.{keys}, List.{list_any}}
 use Rattle.tz_lookup.specs.Databases.{name_shown}
 use Rattle.tz_ever.specs.{Opens.{IsEverFault, IsFoundForEver}, declared.open.EverFault.{EverFault}}
 use Rattle.tz_zone.specs.{Sets.{span_in}, declared.set.FixedTimespanSet.{FixedTimespanSet}}
-use Rattle.zone_source.specs.{Faults.{SourceFault, source_fault}, FaultLines.{source_line}, Releases.{release_of}, Responses.{IsLineOf}, Told.{TellsOfSource, told_by_source}, Zones.{values_of}, declared.error.SourceError.{SourceError}}
-use Rattle.zone_source.specs.declared.error.SourceError.TheVariants as source_error
+use Rattle.zone_source.specs.{Faults.{source_fault}, Releases.{release_of}, Told.{TellsOfSource}, Zones.{values_of}, declared.error.SourceError.{SourceError}}
 use Rattle.zone_tree.specs.{ArchiveEntries.{Content, of_file, of_link}, Contents.{has_mark, is_marked}, EverTold.{IsEverFaultOf, IsFirstEver, RefusesName, TellsWhy, made_shown}}
-use Rattle.zone_tree.specs.{EverTrees.{AreContents, Contents, HasContent, unopened, unwritten, IsEverCause, IsEverTree, OfSource, OfTree, content_in, file_why, zone_why}, EverWrites.{IsEverLine, IsFaultLine}, Names.{finds_by_table, finds_by}, Told.{IsFirst}}
+use Rattle.zone_tree.specs.{EverTrees.{AreContents, Contents, HasContent, unopened, unwritten, IsEverCause, IsEverTree, OfSource, OfTree, content_in, file_why, zone_why}, Names.{finds_by_table, finds_by}, Told.{IsFirst}}
 use Rattle.zone_tree.specs.{Trees.{Cause, Refused, of_name, of_source, or_cause, refused, tree_by, after_source}, declared.ever.Made.{Made}, declared.refusal.NameFault.{NameFault}, declared.refusal.TreeFault.{TreeFault}, declared.refusal.Why.{Why}}
 use Rattle.zone_tree.specs.{declared.refusal.Why.TheVariants.{Name}, TreeShape.{IsTree}}
 use Rattle.zone_tree.proofs.{LawLemmas.{HasFiles, IsFile, ok_same, tree_with}, NameLemmas.{finds_same}}
@@ -162,18 +161,6 @@ first_cause source table tree.NoMemory sound is first = tt
 
 pub source_cause : (source : List ℕ) (error : SourceError) → TellsOfSource (source_fault source) error → IsEverFaultOf source (tree.Source error)
 source_cause source error tells = tells
-
--- ---- the line of a fault
-
-line_of_source : (source bytes : List ℕ) (told : Option SourceFault) (NoMemory : Type 0)
-    → MatchOption told NoMemory (λ fault. IsEverCause source (of_source fault)) → IsLineOf source_line told bytes → IsEverLine source bytes
-line_of_source source bytes None memory is line = absurd line
-line_of_source source bytes (Some fault) memory is line = record { cause = of_source fault; is = is; line = line }
-
-pub ever_line : (source bytes : List ℕ) (fault : TreeFault) → IsEverFaultOf source fault → IsFaultLine fault bytes → IsEverLine source bytes
-ever_line source bytes (tree.Source error) is line = line_of_source source bytes (told_by_source error) (error ≡ source_error.NoMemory) is line
-ever_line source bytes (tree.Refused text why) is line = record { cause = of_name (refused text why); is = is; line = line }
-ever_line source bytes tree.NoMemory is line = absurd line
 
 -- ---- the entries
 

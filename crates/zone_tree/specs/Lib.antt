@@ -14,10 +14,3 @@ pub mod Told
 pub mod EverTrees
 pub mod EverTold
 mod Shown
-pub mod Causes
-pub mod Words
-pub mod EverWrites
-pub mod Ends
-pub mod Starts
--- Laws: what a caller may use.
-pub mod WriteLaws

@@ -1,13 +1,13 @@
 //! The files of zones that go on for ever.
 ghost use Rattle.std.specs.{Prelude.{◌≡◌, Err, IfErr, IfOk, IsTrue, Ok, map}, FinMap.{keys}};
-ghost use Rattle.tz_ever.specs.{EverShown.{ever_seen}, Opens.{IsFoundForEver}};
+ghost use Rattle.tz_ever.specs.{ZoneShown.{zone_set_of}, Opens.{IsFoundForEver}};
 ghost use Rattle.zone_tree.specs.{ArchiveEntries.{of_file}, EverTold.{RefusesName, TellsWhy, made_shown}, EverTrees.{AreContents, HasContent, HasFile, file_why, footer_why, zone_why}};
 ghost use Rattle.zone_table.specs.BoundedTables.{IsBoundedTable};
 
 use crate::files::{ZoneFiles, is_marked};
 use crate::refusal::{NameFault, Why};
 use std::alloc::{AllocError, Global};
-use tz_ever::{EverFault, EverSet};
+use tz_ever::{EverFault, ZoneSet};
 use tz_lookup::ZoneFault;
 use zone_spans::SpanFault;
 use zone_table::Table;
@@ -112,7 +112,7 @@ fn file_of(alloc: Global, table: &Table, name: &str) -> Result<Vec<u8>, NameFaul
     ensures ok { IfOk result (λ file. HasFile table.now name.now file.items) }
     ensures err { IfErr result (RefusesName table.now name.now) }
 {
-    match EverSet::open(alloc, table, name) {
+    match ZoneSet::open(alloc, table, name) {
         Ok(set) => file_of_set(alloc, table, name, &set),
         Err(fault) => Err(unopened(fault)),
     }
@@ -123,9 +123,9 @@ fn file_of_set(
     alloc: Global,
     table: &Table,
     name: &str,
-    set: &EverSet,
+    set: &ZoneSet,
 ) -> Result<Vec<u8>, NameFault>
-    requires { IsFoundForEver table.now name.now (ever_seen set.now) }
+    requires { IsFoundForEver table.now name.now (zone_set_of set.now) }
     ensures ok { IfOk result (λ file. HasFile table.now name.now file.items) }
     ensures err { IfErr result (RefusesName table.now name.now) }
 {

@@ -9,16 +9,9 @@ mod folder;
 mod laws;
 mod names;
 mod refusal;
-mod respond;
-mod running;
 mod whole;
 
 pub use archive::{one_list, reads_back};
 pub use laws::{ever_names_and_links, names_and_links, same_by_table};
 pub use refusal::{TreeFault, Why};
-pub use running::{run_tree, start_tree};
 pub use whole::{tree, tree_for_ever, tree_of_table, tree_of_table_for_ever};
-pub use zone_source::{
-    Failed, FileShelf, MemShelf, MemSink, Shelf, Sink, Source, Started, Status, StdSink, SureShelf,
-    SureSink,
-};

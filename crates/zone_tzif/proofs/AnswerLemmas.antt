@@ -1,22 +1,17 @@
--- Where a footer that was walked begins to give a set's totals for ever.
+-- Where a footer that was walked begins to say what a set shows for ever.
 use Rattle.std.proofs.{Common.{◌≡◌, ℕ, zero, suc, ◌<◌, ◌≤◌, length, Some, None, ℤ, pos, ◌-ℤ◌, ◌≤ℤ◌, ◌<ℤ◌, true, false, cond, refl, sym, ◌∙◌, ⊎_elim, arith}, lemmas.Int.{ints, by_lt_z}, lemmas.Bool.{cases_lt}}
 use Rattle.basics.specs.ComparisonLaws.{le_le, lt_le}
 use Rattle.civil_base.specs.Ranges.{IsOffset}
-use Rattle.zone_spans.specs.Entries.{total}
-use Rattle.tz_tzif.specs.FooterForce.{FooterZone, fixed, yearly, held_at, is_footer_saving, standard_total}
-use Rattle.tz_zone.specs.{Sets.{shifts_of}, SpanLaws.{total_from_cut}, Spans.{IsCut, TimesDontFall, total_from}, declared.set.FixedTimespanSet.{FixedTimespanSet}}
-use Rattle.zone_tzif.specs.{Agreement.{AgreesAlways, AgreesFirstFrom, AgreesForEver, AgreesNowhere, IsFlat, MayBegin, cycle_begin, cycle_end, footer_total, time_of_entry}, Walked.{Agrees, AgreesAt, IsWalked}, Tells.{Tells, TellsEntry}}
+use Rattle.tz_tzif.specs.FooterForce.{FooterZone, fixed, yearly, held_at, is_fixed, standard_total}
+use Rattle.tz_zone.specs.{Sets.{shifts_of}, Spans.{IsCut, TimesDontFall}, declared.set.FixedTimespanSet.{FixedTimespanSet}}
+use Rattle.zone_tzif.specs.{Agreement.{AgreesAlways, AgreesFirstFrom, AgreesForEver, AgreesNowhere, MayBegin, cycle_begin, cycle_end, time_of_entry}, Causes.{kind_in}, Walked.{Agrees, AgreesAt, IsWalked, kind_from}, declared.convert.Saves.TheVariants.{Any}, Tells.{Tells, TellsEntry}}
 use Rattle.zone_tzif.specs.declared.agreeing.Agreement.{Agreement, TheVariants.{Nowhere, From, Always}}
-use Rattle.zone_tzif.proofs.{TailEverLemmas.{Repeats, for_ever, until_end}, EarliestLemmas.{earlier}, StepLemmas.{none_before}}
+use Rattle.zone_tzif.proofs.{KindLemmas.{kind_cut}, TailEverLemmas.{Repeats, for_ever, until_end}, EarliestLemmas.{earlier}, StepLemmas.{none_before}}
 
-flat_total : (zone : FooterZone) → IsFlat zone → (s : ℤ) → footer_total zone s ≡ standard_total zone
+stands : (zone : FooterZone) → is_fixed zone ≡ true → (s t : ℤ) → held_at zone s ≡ held_at zone t
 unfolding held_at
-flat_total (fixed kind) flat s = refl
-flat_total (yearly standard saving start end) flat s =
-    elim (is_footer_saving standard.utoff saving.utoff start end s) as (λ b. (cond b saving standard).utoff ≡ standard.utoff) [
-      | true ↦ sym flat
-      | false ↦ refl
-    ]
+stands (fixed kind) is s t = refl
+stands (yearly standard saving start end) is s t = absurd cc
 
 -- a second before two others
 earlier_second : (a b : ℤ) → (s : ℤ) × (s <ℤ a) × (s <ℤ b)
@@ -27,36 +22,36 @@ earlier_second a b = by_lt_z {P = (s : ℤ) × (s <ℤ a) × (s <ℤ b)} a b
 module _ (repeats : Repeats) (zone : FooterZone) (offset : IsOffset (standard_total zone)) (set : FixedTimespanSet)
     (times : TimesDontFall (shifts_of set)) (n : ℕ) (walked : IsWalked zone set n) where
   before_first : (s : ℤ) → (0 < length (shifts_of set) → s <ℤ time_of_entry set 0)
-      → total_from (total set.first) (shifts_of set) s ≡ total set.first
+      → kind_from set s ≡ kind_in Any set 0
   before_first s early =
       let cut : IsCut (shifts_of set) 0 s = record {
         within = omega arith;
         before = λ j l. absurd (omega arith);
         after = λ j l m. lt_le _ _ _ (early (omega arith)) (times 0 j (omega arith) m);
       } in
-      total_from_cut (total set.first) (shifts_of set) 0 s cut
+      kind_cut set 0 s cut
 
   -- ---- always
-  agrees_always : n ≡ 0 → IsFlat zone → standard_total zone ≡ total set.first → Agrees zone set None
-  agrees_always none flat is = record { alike = λ s begun before. by_cases s before }
+  agrees_always : n ≡ 0 → is_fixed zone ≡ true → held_at zone (pos 0) ≡ kind_in Any set 0 → Agrees zone set None
+  agrees_always none alone is = record { alike = λ s begun before. by_cases s before }
     where
-      first : (s : ℤ) → (0 < length (shifts_of set) → s <ℤ time_of_entry set 0) → footer_total zone s ≡ total_from (total set.first) (shifts_of set) s
-      first s early = flat_total zone flat s ∙ is ∙ sym (before_first s early)
+      first : (s : ℤ) → (0 < length (shifts_of set) → s <ℤ time_of_entry set 0) → held_at zone s ≡ kind_from set s
+      first s early = stands zone alone s (pos 0) ∙ is ∙ sym (before_first s early)
 
-      by_cases : (s : ℤ) → s <ℤ cycle_end → footer_total zone s ≡ total_from (total set.first) (shifts_of set) s
+      by_cases : (s : ℤ) → s <ℤ cycle_end → held_at zone s ≡ kind_from set s
       by_cases s before =
-          ⊎_elim {C = footer_total zone s ≡ total_from (total set.first) (shifts_of set) s}
-          (λ some. by_lt_z {P = footer_total zone s ≡ total_from (total set.first) (shifts_of set) s} s (time_of_entry set 0)
+          ⊎_elim {C = held_at zone s ≡ kind_from set s}
+          (λ some. by_lt_z {P = held_at zone s ≡ kind_from set s} s (time_of_entry set 0)
           (λ lt. first s (λ _. lt))
           (λ le. (walked.later 0 (omega (arith, none)) some).from.alike s le before))
           (λ empty. first s (λ some. absurd (omega (arith, some, empty))))
           (cases_lt 0 (length (shifts_of set)))
 
-  pub always : n ≡ 0 → IsFlat zone → standard_total zone ≡ total set.first → AgreesAlways zone set
-  always none flat is = record {
-    flat = flat;
+  pub always : n ≡ 0 → is_fixed zone ≡ true → held_at zone (pos 0) ≡ kind_in Any set 0 → AgreesAlways zone set
+  always none alone is = record {
+    fixed = alone;
     early = λ i l. (walked.later i (omega (arith, none)) l).first;
-    agrees = for_ever repeats zone offset set None (λ s h. tt) (agrees_always none flat is);
+    agrees = for_ever repeats zone offset set None (λ s h. tt) (agrees_always none alone is);
   }
 
   at_entry : (i : ℕ) → MayBegin set i → AgreesForEver zone set (Some (time_of_entry set i)) → AgreesAt zone set i
@@ -79,10 +74,10 @@ module _ (repeats : Repeats) (zone : FooterZone) (offset : IsOffset (standard_to
         by_number zero w = refl
         by_number (suc m) w = absurd (w.stops m refl (each m (omega (arith, w.within))))
 
-    pub flat_at : standard_total zone ≡ total set.first
-    flat_at =
+    pub first_at : held_at zone (pos 0) ≡ kind_in Any set 0
+    first_at =
         let s = earlier_second (time_of_entry set 0) cycle_end in
-        sym (flat_total zone all.flat s.0) ∙ until.alike s.0 tt s.2 ∙ before_first s.0 (λ _. s.1)
+        stands zone all.fixed (pos 0) s.0 ∙ until.alike s.0 tt s.2 ∙ before_first s.0 (λ _. s.1)
 
   -- ---- from an entry
   pub first_from : n < length (shifts_of set) → time_of_entry set n ≤ℤ cycle_begin → AgreesFirstFrom zone set (time_of_entry set n)

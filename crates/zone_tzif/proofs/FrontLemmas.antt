@@ -31,21 +31,25 @@ cut_is (e ∷ es) (suc i) second h =
     ∙ sym (ap (λ b. cond b (e ∷ filter (λ (e : Entry). int_le e.0 second) es) (filter (λ (e : Entry). int_le e.0 second) es))
     (le_pass e.0 second (h.before 0 (omega arith))))
 
--- so many entries are those up to a second
-pub count_is : (set : FixedTimespanSet) (i : ℕ) (second : ℤ) → IsAccepted (schedule_of set) → i ≤ length set.others
+-- so many entries come up to a second
+pub cut_by : (set : FixedTimespanSet) (i : ℕ) (second : ℤ) → IsAccepted (schedule_of set) → i ≤ length set.others
     → ((j : ℕ) → j < i → (shift_at (shifts_of set) j).0 ≤ℤ second) → (i < length set.others → second <ℤ (shift_at (shifts_of set) i).0)
-    → take i set.others ≡ entries_until second set.others
-unfolding entries_until
-count_is set i second ok l before next =
+    → IsCut (shifts_of set) i second
+cut_by set i second ok l before next =
     let long : length (shifts_of set) ≡ length set.others = length-map _ _ in
-    cut_is set.others i second (record {
+    record {
       within = omega (arith, l, long);
       before = before;
       after = λ j from within.
           let here = next (omega (arith, from, within, long)) in
           let order = ok.times i j from within in
           omega (arith, ints, here, order);
-    })
+    }
+
+-- so they are those up to it
+pub count_is : (set : FixedTimespanSet) (i : ℕ) (second : ℤ) → IsCut (shifts_of set) i second → take i set.others ≡ entries_until second set.others
+unfolding entries_until
+count_is set i second cut = cut_is set.others i second cut
 
 pub front_length : (es : List Entry) (n : ℕ) → n ≤ length es → length (take n es) ≡ n
 front_length es zero l = refl

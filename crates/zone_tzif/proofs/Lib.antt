@@ -11,10 +11,11 @@ mod StringLemmas
 mod CarriedLemmas
 mod ConsistentLemmas
 pub mod EverLemmas
+pub mod SavedLemmas
 pub mod FrontLemmas
 pub mod LineLemmas
 -- Of the footer that carries a zone on for ever.
-pub mod CycleLemmas
+pub mod KindLemmas
 pub mod StepLemmas
 pub mod TailEverLemmas
 pub mod EarliestLemmas

@@ -20,7 +20,7 @@ span_small set (suc i) accepted =
     let parts = and_parts (is_offset (total set.first)) _ accepted.range in
     small_at set.others i (pos 0, set.first) parts.0 (entries_small set.others parts.1)
 
-by_place : (saves : Saves) (entries : List Entry) (k : ℕ) (default : Entry) → k < length entries
+pub by_place : (saves : Saves) (entries : List Entry) (k : ℕ) (default : Entry) → k < length entries
     → (slice_get (map (change_by saves) entries) k ≡ Some (change_by saves (slice_index_or entries k default)))
     × (shift_at (map shift_of entries) k ≡ shift_of (slice_index_or entries k default))
 by_place saves [] k default l = absurd (omega (arith, l))

@@ -1,11 +1,12 @@
 -- Agreement from an entry on, entry by entry.
 use Rattle.std.proofs.{Common.{◌≡◌, ◌↔◌, ℕ, zero, suc, ◌-◌, ◌<◌, ◌≤◌, List, [], ◌∷◌, length, map, ℤ, ◌≤ℤ◌, ◌<ℤ◌, refl, sym, ap, ◌∙◌, subst, ⊎_elim, arith}, lemmas.Int.{ints, by_lt_z}, lemmas.Bool.{cases_lt}}
 use Rattle.basics.specs.ComparisonLaws.{le_le, lt_le}
-use Rattle.zone_spans.specs.Entries.{Entry, total}
-use Rattle.tz_tzif.specs.FooterForce.{FooterZone}
+use Rattle.zone_spans.specs.Entries.{Entry}
+use Rattle.tz_tzif.specs.FooterForce.{FooterZone, held_at}
 use Rattle.tz_lookup.specs.YearSeconds.{rules_begin}
-use Rattle.tz_zone.specs.{Sets.{shift_of, shifts_of, total_of_span}, SpanLaws.{total_from_cut}, Spans.{IsCut, TimesDontFall, total_from}, declared.set.FixedTimespanSet.{FixedTimespanSet}}
-use Rattle.zone_tzif.specs.{Agreement.{cycle_end, footer_total, time_of_entry}, Walked.{AgreesAt, IsWalked, Lasts}}
+use Rattle.tz_zone.specs.{Sets.{shift_of, shifts_of}, Spans.{IsCut, TimesDontFall}, declared.set.FixedTimespanSet.{FixedTimespanSet}}
+use Rattle.zone_tzif.{specs.Agreement.{cycle_end, time_of_entry}, specs.Causes.{kind_in}, specs.Walked.{AgreesAt, IsWalked, Lasts, kind_from}, specs.declared.convert.Saves.TheVariants.{Any}, proofs.KindLemmas.{kind_cut}}
+use Rattle.zone_tzif_core.specs.Zones.{KindValue}
 
 pub length-shifts : (entries : List Entry) → length (map shift_of entries) ≡ length entries
 length-shifts [] = refl
@@ -20,39 +21,39 @@ module _ (set : FixedTimespanSet) (times : TimesDontFall (shifts_of set)) where
   }
 
   -- what an entry puts in force
-  total_is : (i : ℕ) (s : ℤ) → i < length (shifts_of set) → time_of_entry set i ≤ℤ s → Lasts set i s
-      → total_from (total set.first) (shifts_of set) s ≡ total_of_span set (suc i)
-  total_is i s inside begun lasts = total_from_cut (total set.first) (shifts_of set) (suc i) s (cut i s inside begun lasts)
+  kind_is : (i : ℕ) (s : ℤ) → i < length (shifts_of set) → time_of_entry set i ≤ℤ s → Lasts set i s
+      → kind_from set s ≡ kind_in Any set (suc i)
+  kind_is i s inside begun lasts = kind_cut set (suc i) s (cut i s inside begun lasts)
 
-  -- of the entry i a start, an end and a total were computed
-  module _ (zone : FooterZone) (i : ℕ) (low high amount : ℤ) (inside : i < length (shifts_of set)) (first : rules_begin ≤ℤ low)
-      (at : low ≡ time_of_entry set i) (is : amount ≡ total_of_span set (suc i)) (ends : (s : ℤ) → s <ℤ high ↔ Lasts set i s) where
-    here : ((s : ℤ) → low ≤ℤ s → s <ℤ high → footer_total zone s ≡ amount) → (s : ℤ) → time_of_entry set i ≤ℤ s → Lasts set i s
-        → footer_total zone s ≡ total_from (total set.first) (shifts_of set) s
+  -- of the entry i a start, an end and a kind were found
+  module _ (zone : FooterZone) (i : ℕ) (low high : ℤ) (kind : KindValue) (inside : i < length (shifts_of set)) (first : rules_begin ≤ℤ low)
+      (at : low ≡ time_of_entry set i) (is : kind ≡ kind_in Any set (suc i)) (ends : (s : ℤ) → s <ℤ high ↔ Lasts set i s) where
+    here : ((s : ℤ) → low ≤ℤ s → s <ℤ high → held_at zone s ≡ kind) → (s : ℤ) → time_of_entry set i ≤ℤ s → Lasts set i s
+        → held_at zone s ≡ kind_from set s
     here alike s begun lasts =
-        alike s (omega (arith, ints, at, begun)) ((ends s).1 lasts) ∙ is ∙ sym (total_is i s inside begun lasts)
+        alike s (omega (arith, ints, at, begun)) ((ends s).1 lasts) ∙ is ∙ sym (kind_is i s inside begun lasts)
 
-    pub agrees_at : ((s : ℤ) → low ≤ℤ s → s <ℤ high → footer_total zone s ≡ amount)
+    pub agrees_at : ((s : ℤ) → low ≤ℤ s → s <ℤ high → held_at zone s ≡ kind)
         → (suc i < length (shifts_of set) → AgreesAt zone set (suc i)) → AgreesAt zone set i
     agrees_at alike later = record {
       first = omega (arith, ints, first, at);
       from = record { alike = λ s begun before. by_cases s begun before };
     }
       where
-        by_cases : (s : ℤ) → time_of_entry set i ≤ℤ s → s <ℤ cycle_end → footer_total zone s ≡ total_from (total set.first) (shifts_of set) s
+        by_cases : (s : ℤ) → time_of_entry set i ≤ℤ s → s <ℤ cycle_end → held_at zone s ≡ kind_from set s
         by_cases s begun before =
-            by_lt_z {P = footer_total zone s ≡ total_from (total set.first) (shifts_of set) s} s (time_of_entry set (suc i))
+            by_lt_z {P = held_at zone s ≡ kind_from set s} s (time_of_entry set (suc i))
             (λ lt. here alike s begun (record { next = λ more. lt; cycle = before }))
-            (λ le. ⊎_elim {C = footer_total zone s ≡ total_from (total set.first) (shifts_of set) s}
+            (λ le. ⊎_elim {C = held_at zone s ≡ kind_from set s}
             (λ more. (later more).from.alike s le before)
             (λ last. here alike s begun (record { next = λ more. absurd (omega (arith, more, last)); cycle = before }))
             (cases_lt (suc i) (length (shifts_of set))))
 
-    pub agreed : AgreesAt zone set i → (s : ℤ) → low ≤ℤ s → s <ℤ high → footer_total zone s ≡ amount
+    pub agreed : AgreesAt zone set i → (s : ℤ) → low ≤ℤ s → s <ℤ high → held_at zone s ≡ kind
     agreed agrees s begun before =
         let lasts = (ends s).0 before in
         let from : time_of_entry set i ≤ℤ s = omega (arith, ints, at, begun) in
-        agrees.from.alike s from lasts.cycle ∙ total_is i s inside from lasts ∙ sym is
+        agrees.from.alike s from lasts.cycle ∙ kind_is i s inside from lasts ∙ sym is
 
     pub agrees_briefly : high ≤ℤ low → (suc i < length (shifts_of set) → AgreesAt zone set (suc i)) → AgreesAt zone set i
     agrees_briefly none later = agrees_at (λ s begun before. absurd (omega (arith, ints, none, begun, before))) later

@@ -1,5 +1,5 @@
 -- A string in its ranges that stands for a zone by itself is a footer, and gives the same totals.
-use Rattle.std.proofs.{Common.{◌≡◌, ℕ, ◌≤◌, Bool, true, false, cond, not, ◌&&◌, List, [], ◌∷◌, Option, Some, None, option_map, option_and_then, Result, Ok, Err, ℤ, pos, ◌+ℤ◌, ◌++◌, subst, refl, sym, ap, ◌∙◌, arith, nat_le}, lemmas.Bool.{and_parts, and_from}}
+use Rattle.std.proofs.{Common.{◌≡◌, ℕ, ◌≤◌, Bool, true, false, cond, not, ◌&&◌, List, [], ◌∷◌, Option, Some, None, option_map, option_and_then, Result, Ok, Err, ℤ, pos, ◌+ℤ◌, ◌-ℤ◌, ◌++◌, subst, refl, sym, ap, ◌∙◌, arith, nat_le}, lemmas.Bool.{and_parts, and_from}}
 use Rattle.std.proofs.lemmas.{Bool.Decides.{nat_tests}, Int.{ints}}
 use Rattle.std.specs.Option.{option_map_or}
 use Rattle.civil_base.specs.Instants.{seconds_of}
@@ -10,7 +10,7 @@ use Rattle.tz_posix.specs.declared.{error.RangeError.{RangeError}, time.Offset.{
 use Rattle.tz_posix.specs.declared.error.RangeError.TheVariants as miss
 use Rattle.zone_tzif_core.specs.Zones.{KindValue}
 use Rattle.tz_zone.specs.declared.set.FixedTimespanSet.{FixedTimespanSet}
-use Rattle.tz_tzif.specs.{FooterForce.{held_at, yearly, is_footer_saving, is_of_one_year, is_saved, is_saved_by, has_begun}, FooterForce.{year_after, year_before}, Ranges.{IsFooterOf}, Standing.{stands_for}, Values.{FooterValue}}
+use Rattle.tz_tzif.specs.{FooterForce.{held_at, yearly, is_footer_saving, is_of_one_year, is_saved, is_saved_by, has_begun}, Ranges.{IsFooterOf}, Standing.{stands_for}, Values.{FooterValue}}
 use Rattle.zone_tail.specs.Settled.{IsOfLastYear, IsSettled}
 
 -- a time without a sign
@@ -106,16 +106,16 @@ unfolding is_saved_by
 by_here after here before earlier s later begun = rw (later, begun) refl
 
 own_year : (standard ahead s : ℤ) (start end : Date × ℤ)
-    → (has_begun (moments_in standard ahead start end (year_at standard s)) s && not (has_begun (moments_in standard ahead start end (year_after (year_at standard s))) s)) ≡ true
+    → (has_begun (moments_in standard ahead start end (year_at standard s)) s && not (has_begun (moments_in standard ahead start end (year_at standard s +ℤ pos 1)) s)) ≡ true
     → is_footer_saving standard ahead start end s
     ≡ is_within (instant_in (year_at standard s) standard start) (instant_in (year_at standard s) ahead end) s
 unfolding is_footer_saving
 own_year standard ahead s start end own =
     let y = year_at standard s in
     let moments = moments_in standard ahead start end in
-    let both = and_parts (has_begun (moments y) s) (not (has_begun (moments (year_after y)) s)) own in
-    by_here (moments (year_after y)) (moments y) (moments (year_before y)) (moments (year_before (year_before y))) s
-    (not_from (has_begun (moments (year_after y)) s) both.1) both.0
+    let both = and_parts (has_begun (moments y) s) (not (has_begun (moments (y +ℤ pos 1)) s)) own in
+    by_here (moments (y +ℤ pos 1)) (moments y) (moments (y -ℤ pos 1)) (moments (y -ℤ pos 2)) s
+    (not_from (has_begun (moments (y +ℤ pos 1)) s) both.1) both.0
     ∙ within_begun (instant_in y standard start) (instant_in y ahead end) s both.0
 
 totals_same : (standard saved : KindValue) (start end : Date × Option Time) (s : ℤ)
@@ -136,7 +136,7 @@ own_of_last : (standard saved : KindValue) (start end : Date × Option Time) (s 
 unfolding is_of_one_year
 own_of_last standard saved start end s last =
     ap (λ y. has_begun (moments_in standard.utoff saved.utoff (moment_of signed_times (lifted start)) (moment_of signed_times (lifted end)) y) s
-    && not (has_begun (moments_in standard.utoff saved.utoff (moment_of signed_times (lifted start)) (moment_of signed_times (lifted end)) (year_after y)) s)) last.year
+    && not (has_begun (moments_in standard.utoff saved.utoff (moment_of signed_times (lifted start)) (moment_of signed_times (lifted end)) (y +ℤ pos 1)) s)) last.year
     ∙ and_from _ _
     ((λ i. has_begun (instant_in (pos 2099) standard.utoff (moment_same start i), instant_in (pos 2099) saved.utoff (moment_same end i)) s) ∙ last.begun)
     (ap not ((λ i. has_begun (instant_in (pos 2100) standard.utoff (moment_same start i), instant_in (pos 2100) saved.utoff (moment_same end i)) s) ∙ last.next))

@@ -1,23 +1,23 @@
--- A footer that gives a set's totals up to the end of the cycle gives them for ever.
+-- A footer that says what a set shows up to the end of the cycle says so for ever.
 use Rattle.std.proofs.{Common.{◌≡◌, ℕ, zero, suc, ◌+◌, ◌*◌, ◌<◌, ◌≤◌, Option, ℤ, pos, neg_ℤ, ◌+ℤ◌, ◌-ℤ◌, ◌*ℤ◌, ◌≤ℤ◌, ◌<ℤ◌, refl, sym, ap, ◌∙◌, subst, arith}, lemmas.Int.{ints}}
-use Rattle.basics.specs.{Days.{day, is_leap, days_in_year, days_in_month, days_after_zero, year_start, days_through, days_into_year}, ComparisonLaws.{lt_pass}, SignedLaws.{signed}}
+use Rattle.basics.specs.{Days.{day, is_leap, days_in_year, days_in_month, days_after_zero, days_before_zero, year_start, days_through, days_into_year}, ComparisonLaws.{lt_pass}, SignedLaws.{signed}}
 use Rattle.civil_base.specs.{Instants.{seconds_of}, RangeLaws.{offset_greatest, offset_least}, Ranges.{IsOffset}}
-use Rattle.zone_spans.specs.{Cycle.{seconds_on}, Entries.{total}}
-use Rattle.tz_ever.specs.{Ever.{ever_total}, Seam.{brought_back, cycles_past, next_seam}, SeamLaws.{ArePast, back_by, back_is, cycles_past-are}}
-use Rattle.tz_tzif.specs.FooterForce.{FooterZone, held_at, standard_total}
-use Rattle.tz_zone.specs.{SecondLaws.{IsSecond, one_second, second_is, total_is}, Sets.{schedule_of, shifts_of}, Spans.{total_from}, declared.set.FixedTimespanSet.{FixedTimespanSet}}
+use Rattle.zone_spans.specs.Cycle.{seconds_on}
+use Rattle.tz_ever.specs.{Seam.{brought_back, cycles_past, next_seam}, SeamLaws.{ArePast, back_by, back_is, cycles_past-are}}
+use Rattle.tz_tzif.specs.{FooterForce.{FooterZone, held_at, standard_total}, Years.{IsInYears}}
+use Rattle.tz_zone.specs.{SecondLaws.{IsSecond, one_second, second_is}, declared.set.FixedTimespanSet.{FixedTimespanSet}}
 use Rattle.zone_tail.specs.Carried.{IsFrom}
-use Rattle.zone_tzif.specs.{Agreement.{AgreesForEver, IsCovered, cycle_begin, cycle_end, footer_total}, Walked.{Agrees}, Years.{IsInYears}}
+use Rattle.zone_tzif.{specs.Agreement.{AgreesForEver, IsCovered, cycle_begin, cycle_end}, specs.Walked.{Agrees, kind_from}, proofs.KindLemmas.{ever_is}}
 
 -- the law of footers
 abbrev pub Repeats : Type 0
-Repeats = (zone : FooterZone) (s : ℤ) → IsInYears (pos 2) (pos 9599) (standard_total zone) s → held_at zone (seconds_on s) ≡ held_at zone s
+Repeats = (zone : FooterZone) (s : ℤ) → IsInYears (neg_ℤ (pos 10000)) (pos 9600) (standard_total zone) s → held_at zone (seconds_on s) ≡ held_at zone s
 
-pub first_day : day (pos 2) 1 1 ≡ neg_ℤ (pos 718797)
-unfolding is_leap days_in_year days_in_month days_after_zero year_start days_through days_into_year day
+pub first_day : day (neg_ℤ (pos 10000)) 1 1 ≡ neg_ℤ (pos 4371953)
+unfolding is_leap days_in_year days_in_month days_after_zero days_before_zero year_start days_through days_into_year day
 first_day = refl
 
-pub last_day : day (pos 9599) 12 31 ≡ pos 2786799
+pub last_day : day (pos 9600) 12 31 ≡ pos 2787165
 unfolding is_leap days_in_year days_in_month days_after_zero year_start days_through days_into_year day
 last_day = refl
 
@@ -39,7 +39,7 @@ module _ (repeats : Repeats) (zone : FooterZone) (offset : IsOffset (standard_to
   in_cycles s zero from to = ap (held_at zone) (omega (arith, signed))
   in_cycles s (suc k) from to =
       let o = standard_total zone in
-      let inside : IsInYears (pos 2) (pos 9599) o (later s k) = record {
+      let inside : IsInYears (neg_ℤ (pos 10000)) (pos 9600) o (later s k) = record {
         begun = omega (arith, signed, from, first_day, offset_least o offset);
         not_over = omega (arith, signed, to, last_day, last_of_all);
       } in
@@ -95,11 +95,7 @@ second_of_back t =
     }
 
 -- ---- for ever
-ever_is : (set : FixedTimespanSet) (t second : ℤ) → seconds_of (brought_back t) ≡ second → ever_total set t ≡ total_from (total set.first) (shifts_of set) second
-unfolding ever_total
-ever_is set t second back = total_is (schedule_of set) (brought_back t) ∙ ap (total_from (total set.first) (shifts_of set)) back
-
-none_later : (second : ℤ) → later second 0 ≡ second
+pub none_later : (second : ℤ) → later second 0 ≡ second
 none_later second = omega (arith, signed)
 
 pub whole : (s : ℤ) → seconds_of (pos 1000000000 *ℤ s) ≡ s
@@ -118,14 +114,14 @@ module _ (repeats : Repeats) (zone : FooterZone) (offset : IsOffset (standard_to
       by_cycles back.cycles back.second back.is back.later_begin back.before ∙ sym (ever_is set t back.second back.back)
     where
       by_cycles : (k : ℕ) (second : ℤ) → seconds_of t ≡ later second k → (0 < k → cycle_begin ≤ℤ second) → second <ℤ cycle_end
-          → footer_total zone (seconds_of t) ≡ total_from (total set.first) (shifts_of set) second
+          → held_at zone (seconds_of t) ≡ kind_from set second
       by_cycles zero second is later_begin before =
           let same = is ∙ none_later second in
-          ap (footer_total zone) same ∙ agrees.alike second (subst (IsFrom from) same covered.begun) before
+          ap (held_at zone) same ∙ agrees.alike second (subst (IsFrom from) same covered.begun) before
       by_cycles (suc k) second is later_begin before =
           let begun = later_begin (omega arith) in
           let over = subst (λ s. (s +ℤ standard_total zone) <ℤ (pos 86400 *ℤ (day (pos 9999) 12 31 +ℤ pos 1))) is covered.not_over in
-          ap (footer_total zone) is ∙ ap (λ held. held.utoff) (in_cycles repeats zone offset second (suc k) begun over)
+          ap (held_at zone) is ∙ in_cycles repeats zone offset second (suc k) begun over
           ∙ agrees.alike second (begins second begun) before
 
   -- and what agrees for ever agrees up to the end of the cycle
@@ -138,5 +134,5 @@ module _ (repeats : Repeats) (zone : FooterZone) (offset : IsOffset (standard_to
           not_over = subst (λ z. (z +ℤ standard_total zone) <ℤ (pos 86400 *ℤ (day (pos 9999) 12 31 +ℤ pos 1))) (sym (whole s))
               (omega (arith, signed, before, last_of_all, offset_greatest (standard_total zone) offset));
         } in
-        ap (footer_total zone) (sym (whole s)) ∙ agrees t covered ∙ ever_is set t s (early s before);
+        ap (held_at zone) (sym (whole s)) ∙ agrees t covered ∙ ever_is set t s (early s before);
   }

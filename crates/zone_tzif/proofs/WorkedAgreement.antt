@@ -1,21 +1,23 @@
 -- Worked rows: the seconds of years, the instants that are covered, and the cycle.
-use Rattle.std.proofs.Common.{◌≡◌, None, Some, [], false, ℤ, pos, neg_ℤ, ◌*ℤ◌, refl, arith}
+use Rattle.std.proofs.Common.{◌≡◌, Bool, ℕ, List, None, Some, [], codes, true, false, ℤ, pos, neg_ℤ, ◌*ℤ◌, ap, sym, ◌∙◌, refl, arith}
 use Rattle.basics.specs.SignedLaws.{signed}
-use Rattle.tz_ever.specs.Seam.{next_seam, seam}
-use Rattle.tz_tzif.specs.FooterForce.{FooterZone, fixed}
-use Rattle.zone_tzif.{specs.Agreement.{IsCovered, cycle_begin, cycle_end}, specs.Years.{IsInYears}, proofs.TailEverLemmas.{first_day, last_day, last_of_all, whole}}
+use Rattle.zone_spans.specs.declared.span.FixedTimespan.{FixedTimespan}
+use Rattle.tz_ever.specs.{Ever.{ever_span}, InForce.{span_by}, Seam.{next_seam, seam}}
+use Rattle.tz_zone.specs.declared.set.FixedTimespanSet.{FixedTimespanSet}
+use Rattle.tz_tzif.specs.{FooterForce.{FooterZone, fixed, held_at}, Years.{IsInYears}}
+use Rattle.zone_tzif.{specs.Agreement.{AgreesForEver, IsCovered, cycle_begin, cycle_end}, proofs.TailEverLemmas.{first_day, last_day, last_of_all, whole}}
 
--- 0002-01-01 00:00:00 and 9599-12-31 23:59:59 by clocks an hour ahead of UTC, and a second on either side
-first_second : IsInYears (pos 2) (pos 9599) (pos 3600) (neg_ℤ (pos 62104064400))
+-- -10000-01-01 00:00:00 and 9600-12-31 23:59:59 by clocks an hour ahead of UTC, and a second on either side
+first_second : IsInYears (neg_ℤ (pos 10000)) (pos 9600) (pos 3600) (neg_ℤ (pos 377736742800))
 first_second = record { begun = omega (arith, signed, first_day); not_over = omega (arith, signed, last_day) }
 
-none_before : IsInYears (pos 2) (pos 9599) (pos 3600) (neg_ℤ (pos 62104064401)) → ⊥
+none_before : IsInYears (neg_ℤ (pos 10000)) (pos 9600) (pos 3600) (neg_ℤ (pos 377736742801)) → ⊥
 none_before inside = absurd (omega (arith, signed, inside.begun, first_day))
 
-last_second : IsInYears (pos 2) (pos 9599) (pos 3600) (pos 240779516399)
+last_second : IsInYears (neg_ℤ (pos 10000)) (pos 9600) (pos 3600) (pos 240811138799)
 last_second = record { begun = omega (arith, signed, first_day); not_over = omega (arith, signed, last_day) }
 
-none_after : IsInYears (pos 2) (pos 9599) (pos 3600) (pos 240779516400) → ⊥
+none_after : IsInYears (neg_ℤ (pos 10000)) (pos 9600) (pos 3600) (pos 240811138800) → ⊥
 none_after inside = absurd (omega (arith, signed, inside.not_over, last_day))
 
 -- the last second of 9999 is covered and no later one; from a second on, that second is and none before it
@@ -40,3 +42,25 @@ none_covered_earlier covered = absurd (omega (arith, signed, covered.begun, whol
 -- the cycle is the one that stands for each later one
 cycle : (cycle_begin *ℤ pos 1000000000 ≡ seam) × (cycle_end *ℤ pos 1000000000 ≡ next_seam)
 cycle = (refl, refl)
+
+-- a footer of that total agrees where its abbreviation is the set's and the set has no saving, and by neither alone
+abbrev steady : List ℕ → ℤ → ℤ → FixedTimespanSet
+steady name offset saving = record { name = []; first = record { utc_offset = offset; dst_offset = saving; name = name }; others = [] }
+
+agrees : AgreesForEver utc (steady [] (pos 0) (pos 0)) None
+unfolding held_at ever_span span_by
+agrees t covered = refl
+
+other_name : AgreesForEver utc (steady (codes "GMT") (pos 0) (pos 0)) None → ⊥
+unfolding held_at ever_span span_by
+other_name alike = let e = ap (λ kind. kind.name) (alike (at (pos 0)) early) in absurd cc
+  where
+    early : IsCovered utc None (at (pos 0))
+    early = record { begun = tt; not_over = omega (arith, signed, whole (pos 0), last_of_all) }
+
+other_flag : AgreesForEver utc (steady [] (pos 3600) (neg_ℤ (pos 3600))) None → ⊥
+unfolding held_at ever_span span_by
+other_flag alike = let e = ap (λ kind. kind.is_dst) (alike (at (pos 0)) early) in absurd cc
+  where
+    early : IsCovered utc None (at (pos 0))
+    early = record { begun = tt; not_over = omega (arith, signed, whole (pos 0), last_of_all) }

@@ -1,25 +1,27 @@
--- Where a footer gives the totals of a set that goes on for ever.
-use Rattle.std.specs.Prelude.{◌≡◌, ℕ, ◌<◌, length, Option, Some, None, ℤ, pos, ◌+ℤ◌, ◌*ℤ◌, ◌≤ℤ◌, ◌<ℤ◌}
+-- Where a footer says what a set shows that goes on for ever: the offset, the abbreviation, and whether it is daylight saving time.
+use Rattle.std.specs.Prelude.{◌≡◌, ℕ, ◌<◌, length, Option, Some, None, true, ℤ, pos, ◌+ℤ◌, ◌*ℤ◌, ◌≤ℤ◌, ◌<ℤ◌}
 use Rattle.basics.specs.Days.{day}
 use Rattle.civil_base.specs.{Instants.{seconds_of}, Ranges.{IsOffset}}
-use Rattle.tz_ever.specs.Ever.{ever_total}
-use Rattle.tz_tzif.specs.FooterForce.{FooterZone, held_at, saving_total, standard_total}
+use Rattle.tz_ever.specs.Ever.{ever_span}
+use Rattle.tz_tzif.specs.FooterForce.{FooterZone, held_at, is_fixed, standard_total}
 use Rattle.tz_lookup.specs.YearSeconds.{rules_begin}
 use Rattle.tz_zone.specs.{Sets.{shifts_of}, Spans.{shift_at}, declared.set.FixedTimespanSet.{FixedTimespanSet}}
 use Rattle.zone_tail.specs.Carried.{IsFrom}
+use Rattle.zone_tzif.specs.{Values.{kind_by}, declared.convert.Saves.TheVariants.{Any}}
+use Rattle.zone_tzif_core.specs.Zones.{KindValue}
 
--- the seconds east of UTC that a footer gives a second
-abbrev pub footer_total : FooterZone → ℤ → ℤ
-footer_total zone second = (held_at zone second).utoff
+-- what a set shows for ever at an instant, as a file says it: any saving but 0 is daylight saving time
+abbrev pub ever_kind : FixedTimespanSet → ℤ → KindValue
+ever_kind set t = kind_by Any (ever_span set t)
 
 -- an instant from a second on, or at any time where there is none, up to the end of the year 9999 by the footer's standard time
 pub record IsCovered (zone : FooterZone) (from : Option ℤ) (t : ℤ) : Type 0 where
   pub begun : IsFrom from (seconds_of t)
   pub not_over : (seconds_of t +ℤ standard_total zone) <ℤ (pos 86400 *ℤ (day (pos 9999) 12 31 +ℤ pos 1))
 
--- at each of these instants the footer's total is what the set shows for ever
+-- at each of these instants the footer puts in force what the set shows for ever
 abbrev pub AgreesForEver : FooterZone → FixedTimespanSet → Option ℤ → Type 0
-AgreesForEver zone set from = (t : ℤ) → IsCovered zone from t → footer_total zone (seconds_of t) ≡ ever_total set t
+AgreesForEver zone set from = (t : ℤ) → IsCovered zone from t → held_at zone (seconds_of t) ≡ ever_kind set t
 
 -- 2102-01-01 00:00:00 UTC, from which on each year comes again
 abbrev pub cycle_begin : ℤ
@@ -38,10 +40,6 @@ pub record MayBegin (set : FixedTimespanSet) (i : ℕ) : Type 0 where
   pub first : rules_begin ≤ℤ time_of_entry set i
   pub last : time_of_entry set i ≤ℤ cycle_begin
 
--- one total for good
-abbrev pub IsFlat : FooterZone → Type 0
-IsFlat zone = standard_total zone ≡ saving_total zone
-
 -- from this entry on; and no footer at all, whose offset is in range, does so from an entry before it
 pub record AgreesFirstFrom (zone : FooterZone) (set : FixedTimespanSet) (second : ℤ) : Type 0 where
   pub entry : ℕ
@@ -55,8 +53,8 @@ pub record AgreesFirstFrom (zone : FooterZone) (set : FixedTimespanSet) (second 
 abbrev pub AgreesNowhere : FooterZone → FixedTimespanSet → Type 0
 AgreesNowhere zone set = (i : ℕ) → MayBegin set i → AgreesForEver zone set (Some (time_of_entry set i)) → ⊥
 
--- one total for good, no entry before 1800, and so from the beginning of time on
+-- standard time alone, no entry before 1800, and so from the beginning of time on
 pub record AgreesAlways (zone : FooterZone) (set : FixedTimespanSet) : Type 0 where
-  pub flat : IsFlat zone
+  pub fixed : is_fixed zone ≡ true
   pub early : (i : ℕ) → i < length (shifts_of set) → rules_begin ≤ℤ time_of_entry set i
   pub agrees : AgreesForEver zone set None

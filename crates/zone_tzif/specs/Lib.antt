@@ -9,7 +9,6 @@ pub mod Values
 pub mod Files
 pub mod Footers
 pub mod EverFiles
-pub mod Years
 pub mod Agreement
 pub mod Tried
 pub mod Tails

@@ -19,7 +19,7 @@ abbrev pub beginning_of : Option ℤ → Agreement
 beginning_of None = Always
 beginning_of (Some second) = From second
 
--- the text is a footer that gives the set's totals from there on for ever
+-- the text is a footer that says from there on for ever what the set shows
 pub record CarriesForEver (set : FixedTimespanSet) (from : Option ℤ) (text : List ℕ) : Type 0 where
   pub zone : FooterZone
   pub stands : StandsFor text zone

@@ -1,4 +1,4 @@
--- Where a footer begins to give a set's totals for ever, as it is told.
+-- Where a footer begins to say what a set shows for ever, as it is told.
 use Rattle.tz_tzif.specs.FooterForce.{FooterZone}
 use Rattle.tz_zone.specs.declared.set.FixedTimespanSet.{FixedTimespanSet}
 use Rattle.zone_tzif.specs.{Agreement.{AgreesAlways, AgreesFirstFrom, AgreesNowhere}, declared.agreeing.Agreement.{Agreement}, declared.agreeing.Agreement.TheVariants.{Nowhere, From, Always}}

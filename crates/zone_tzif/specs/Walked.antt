@@ -1,16 +1,25 @@
--- How far back a footer gives the totals of a set, by the set's entries, up to the end of the cycle.
-use Rattle.std.specs.Prelude.{◌≡◌, ℕ, suc, ◌<◌, ◌≤◌, length, Option, Some, ℤ, pos, neg_ℤ, ◌≤ℤ◌, ◌<ℤ◌}
-use Rattle.zone_spans.specs.Entries.{total}
-use Rattle.tz_tzif.specs.FooterForce.{FooterZone}
+-- How far back a footer says what a set shows, by the set's entries, up to the end of the cycle.
+use Rattle.std.specs.Prelude.{◌≡◌, ℕ, suc, ◌<◌, ◌≤◌, List, filter, length, map, Option, Some, ℤ, pos, neg_ℤ, ◌≤ℤ◌, ◌<ℤ◌, int_le}
+use Rattle.zone_spans.specs.Entries.{Entry}
+use Rattle.tz_tzif.specs.FooterForce.{FooterZone, held_at}
 use Rattle.tz_lookup.specs.YearSeconds.{rules_begin}
-use Rattle.tz_zone.specs.{Sets.{shifts_of}, Spans.{total_from}, declared.set.FixedTimespanSet.{FixedTimespanSet}}
+use Rattle.tz_zone.specs.{Sets.{shifts_of}, declared.set.FixedTimespanSet.{FixedTimespanSet}}
 use Rattle.zone_tail.specs.Carried.{IsFrom}
-use Rattle.zone_tzif.specs.Agreement.{cycle_end, footer_total, time_of_entry}
+use Rattle.zone_tzif.specs.{Agreement.{cycle_end, time_of_entry}, Values.{change_by, kind_by}, declared.convert.Saves.TheVariants.{Any}}
+use Rattle.zone_tzif_core.specs.{Totals.{last_kind}, Zones.{KindValue}}
+
+-- the changes up to a second, as those of a file
+abbrev pub come : ℤ → List Entry → List (ℤ × KindValue)
+come second entries = filter (λ (change : ℤ × KindValue). int_le change.0 second) (map (change_by Any) entries)
+
+-- what a set has in force at a second, as a file says it
+abbrev pub kind_from : FixedTimespanSet → ℤ → KindValue
+kind_from set second = last_kind (kind_by Any set.first) (come second set.others)
 
 module _ (zone : FooterZone) (set : FixedTimespanSet) where
   -- up to the end of the cycle
   pub record Agrees (from : Option ℤ) : Type 0 where
-    pub alike : (s : ℤ) → IsFrom from s → s <ℤ cycle_end → footer_total zone s ≡ total_from (total set.first) (shifts_of set) s
+    pub alike : (s : ℤ) → IsFrom from s → s <ℤ cycle_end → held_at zone s ≡ kind_from set s
 
   -- from entry i on
   pub record AgreesAt (i : ℕ) : Type 0 where

@@ -1,21 +1,24 @@
-//! Where a footer begins to give the totals of a set that goes on for ever.
-ghost use Rattle.std.specs.Prelude.{◌≡◌, ◌<◌, ◌↔◌, IsTrue, length, ◌≤ℤ◌};
+//! Where a footer begins to say what a set shows that goes on for ever.
+ghost use Rattle.std.specs.Prelude.{◌≡◌, ◌<◌, ◌↔◌, IsTrue, true, length, pos, ◌≤ℤ◌};
 ghost use Rattle.civil_base.specs.Ranges.{IsOffset};
-ghost use Rattle.tz_tzif.specs.{FooterShown.{footer_shown}, FooterForce.{standard_total}};
+ghost use Rattle.tz_tzif.specs.{FooterShown.{footer_shown}, FooterForce.{held_at, is_fixed, standard_total}};
 ghost use Rattle.tz_zone.specs.Sets.{IsAccepted, schedule_of, shifts_of};
-ghost use Rattle.zone_tzif.specs.{Agreement.{AgreesAlways, IsFlat, cycle_begin, time_of_entry}, Tells.{Tells, TellsEntry}, Walked.{IsWalked}};
+ghost use Rattle.zone_tzif_core.specs.Shown.{record_shown};
+ghost use Rattle.zone_tzif.specs.{Agreement.{AgreesAlways, cycle_begin, time_of_entry}, Tells.{Tells, TellsEntry}, Walked.{IsWalked}};
 
-use crate::repeats::footers_repeat;
-use crate::walk::walk;
-use civil_base::UtcOffset;
+use crate::causes::kind_at;
+use crate::convert::Saves;
+use crate::walk::{is_held, walk};
 use tz_lookup::SpanTable;
 use tz_tzif::Footer;
-use zone_tail::parts::total_of;
+use tz_tzif::repeats::footers_repeat;
+use zone_tzif_core::Record;
 
 /// 2102-01-01 00:00:00 UTC.
 const CYCLE_BEGIN: i64 = 4_165_516_800;
 
-/// Where a footer begins to give the totals of a set for ever, up to the end of the year 9999 by its standard time.
+/// Where a footer begins to say what a set shows for ever, up to the end of the year 9999 by its standard time: the offset, the
+/// abbreviation, and any saving but 0 as daylight saving time.
 #[derive(Clone, Copy, Debug, PartialEq, Eq)]
 pub enum Agreement {
     /// At no entry from 1800 to 2101.
@@ -23,12 +26,12 @@ pub enum Agreement {
     /// At the first of these entries from which on it does, a second from 1970-01-01 00:00:00 UTC. No footer at all does so from an
     /// earlier one.
     From(i64),
-    /// At the beginning of time: the footer has one total for good.
+    /// At the beginning of time: the footer is standard time alone.
     Always,
 }
 
-/// Where a footer begins to give the totals that a set, which can be looked up, shows for ever, each year from 2102 on being that of 400
-/// years before.
+/// Where a footer begins to say what a set, which can be looked up, shows for ever, each year from 2102 on being that of 400 years
+/// before.
 pub fn first_agreement<S: SpanTable>(footer: &Footer<'_>, set: &S) -> Agreement
     requires { IsAccepted (schedule_of (S.seen set.now)) }
     ensures { Tells (footer_shown footer.now) (S.seen set.now) result }
@@ -47,9 +50,10 @@ fn is_always<S: SpanTable>(footer: &Footer<'_>, set: &S, entry: usize) -> bool
     ensures { IsTrue result ↔ AgreesAlways (footer_shown footer.now) (S.seen set.now) }
 {
     footers_repeat();
-    let total = total_of(set, 0);
-    let is_flat = is_flat(footer, total);
-    entry == 0 && is_flat
+    read_offset(footer);
+    let kind = kind_at(Saves::Any, set, 0);
+    let is_standing = is_standing(footer, &kind);
+    entry == 0 && is_standing
 }
 
 /// Where it agrees from an entry on.
@@ -82,18 +86,9 @@ fn read_offset(footer: &Footer<'_>)
     let _in_range = standard.whole_seconds();
 }
 
-/// Whether a footer, whose offset is in range, has one total for good, and this is it.
-fn is_flat(footer: &Footer<'_>, total: i64) -> bool
-    ensures is { IsTrue result ↔ (IsFlat (footer_shown footer.now) × (standard_total (footer_shown footer.now) ≡ total)) }
-    ensures range { IsOffset (standard_total (footer_shown footer.now)) }
+/// Whether a footer is standard time alone, and of this kind.
+fn is_standing(footer: &Footer<'_>, kind: &Record<'_>) -> bool
+    ensures { IsTrue result ↔ ((is_fixed (footer_shown footer.now) ≡ true) × (held_at (footer_shown footer.now) (pos 0) ≡ record_shown kind.now)) }
 {
-    let (standard, saving) = footer.offsets();
-    is_same(standard, saving) && i64::from(standard.whole_seconds()) == total
-}
-
-/// Whether two offsets are one.
-fn is_same(standard: UtcOffset, saving: UtcOffset) -> bool
-    ensures { IsTrue result ↔ (standard ≡ saving) }
-{
-    standard.whole_seconds() == saving.whole_seconds()
+    footer.is_fixed() && is_held(&footer.held_at(0), kind)
 }

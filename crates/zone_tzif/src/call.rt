@@ -1,6 +1,6 @@
 //! The call.
 ghost use Rattle.std.specs.Prelude.{◌≡◌, ◌<◌, IfOk, MatchOption, MatchResult, None, string_bytes};
-ghost use Rattle.tz_ever.specs.EverShown.{ever_seen};
+ghost use Rattle.tz_ever.specs.ZoneShown.{zone_set_of};
 ghost use Rattle.tz_zone.specs.Sets.{IsAccepted, schedule_of};
 ghost use Rattle.zone_tzif.specs.{Forms.{Shows}, Tails.{CarriesForEver, CarriesNothing, IsFaultForEver, IsTailForEver, TextTells}, Tried.{ever_fault, ever_form, how_many, tried}};
 
@@ -10,15 +10,15 @@ use crate::form::{Form, form_of};
 use crate::outcome::{EverTail, EverTailFault};
 use crate::tried::tried_text;
 use std::alloc::{AllocError, Global};
-use tz_ever::EverSet;
+use tz_ever::ZoneSet;
 use tz_lookup::SpanTable;
 use tz_tzif::{Footer, one_footer};
 
 /// How many footers are tried.
 const HOW_MANY: u32 = 784;
 
-/// The footer that carries a zone on for ever, and the entry from which on its total is the zone's at every instant up to the end of
-/// the year 9999.
+/// The footer that carries a zone on for ever, and the entry from which on it says what the zone shows at every instant up to the end of
+/// the year 9999: the offset, the abbreviation, and any saving but 0 as daylight saving time.
 ///
 /// A zone without an entry in 2102 has a footer of standard time alone. One with two, with which daylight saving time starts and
 /// ends, has a rule of two `M` dates, each with a time from -167 to 167 hours; its saving may lie below 0. Of those that name the
@@ -28,8 +28,8 @@ const HOW_MANY: u32 = 784;
 ///
 /// In this order, and each exactly where it says: `Shape`, `OffsetRange`, `Name`; `NoRule`. `NoMemory`, and never where one of the
 /// first three is due.
-pub fn tail_for_ever(alloc: Global, set: &EverSet) -> Result<EverTail, EverTailFault>
-    ensures { MatchResult result (λ tail. IsTailForEver (ever_seen set.now) tail.from (string_bytes tail.text)) (IsFaultForEver (ever_seen set.now)) }
+pub fn tail_for_ever(alloc: Global, set: &ZoneSet) -> Result<EverTail, EverTailFault>
+    ensures { MatchResult result (λ tail. IsTailForEver (zone_set_of set.now) tail.from (string_bytes tail.text)) (IsFaultForEver (zone_set_of set.now)) }
 {
     tail_of(alloc, set.compact())
 }
@@ -88,7 +88,7 @@ fn tail_by<S: SpanTable>(
     }
 }
 
-/// Where a text begins to give the totals of a set for ever, as a footer.
+/// Where a text begins to say what a set shows for ever, as a footer.
 fn text_agreement<S: SpanTable>(text: &str, set: &S) -> Agreement
     requires { IsAccepted (schedule_of (S.seen set.now)) }
     ensures { TextTells (S.seen set.now) text.now result }

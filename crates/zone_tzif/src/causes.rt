@@ -39,7 +39,7 @@ fn record_of(saves: Saves, span: &FixedTimespan) -> Record<'_>
 }
 
 /// The kind of the span of a number.
-fn kind_at<S: SpanTable>(saves: Saves, set: &S, number: usize) -> Record<'_>
+pub(crate) fn kind_at<S: SpanTable>(saves: Saves, set: &S, number: usize) -> Record<'_>
     requires { IsAccepted (schedule_of (S.seen set.now)) }
     ensures { record_shown result ≡ kind_in saves (S.seen set.now) number }
 {

@@ -14,7 +14,7 @@ mod form;
 mod laws;
 mod outcome;
 mod program;
-pub mod repeats;
+mod saved;
 mod text;
 mod tried;
 mod until;
@@ -25,11 +25,12 @@ pub use agreeing::{Agreement, first_agreement};
 pub use call::tail_for_ever;
 pub use carried::{carried_on, consistent_totals};
 pub use convert::from_set;
-pub use ever::{EverFileFault, ever_totals, tzif_for_ever};
+pub use ever::{EverFileFault, ever_kinds, ever_totals, tzif_for_ever};
 pub use file::{FileFault, consistent_tzif_of, tzif_of};
 pub use laws::{few_causes, reads_back, totals_kept};
 pub use outcome::{EverTail, EverTailFault};
 pub use program::{run_tzif, start_tzif};
+pub use tz_tzif::repeats;
 pub use zone_run::{
     Failed, FileShelf, MemShelf, MemSink, Shelf, Sink, Source, Started, Status, StdSink, SureShelf,
     SureSink,

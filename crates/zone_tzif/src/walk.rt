@@ -1,43 +1,55 @@
-//! How far back a footer gives the totals of a set.
+//! How far back a footer says what a set shows.
 ghost use Rattle.std.specs.Prelude.{◌≡◌, suc, ◌≤◌, ◌<◌, ◌↔◌, IsTrue, length, ℤ, ◌≤ℤ◌, ◌<ℤ◌};
-ghost use Rattle.tz_tzif.specs.FooterShown.{footer_shown};
+ghost use Rattle.tz_tzif.specs.{FooterForce.{held_at}, FooterShown.{footer_shown, held_shown}};
 ghost use Rattle.tz_lookup.specs.YearSeconds.{rules_begin};
 ghost use Rattle.tz_zone.specs.Sets.{IsAccepted, schedule_of, shifts_of};
-ghost use Rattle.zone_tzif.specs.{Agreement.{cycle_end, footer_total, time_of_entry}, Walked.{AgreesAt, IsNear, IsWalked, Lasts}};
+ghost use Rattle.zone_tzif_core.specs.Shown.{record_shown};
+ghost use Rattle.zone_tzif.specs.{Agreement.{cycle_end, time_of_entry}, Walked.{AgreesAt, IsNear, IsWalked, Lasts}};
 
-use tz_lookup::{RULES_BEGIN, SpanTable};
-use tz_tzif::Footer;
-use zone_tail::parts::total_of;
+use crate::causes::kind_at;
+use crate::convert::Saves;
+use tz_lookup::{Offset, RULES_BEGIN, SpanTable};
+use tz_tzif::{Footer, Held};
+use zone_tzif_core::Record;
 
 /// 2502-01-01 00:00:00 UTC.
 const CYCLE_END: i64 = 16_788_297_600;
 
-/// The total that a footer gives a second.
-fn total_at(footer: &Footer<'_>, second: i64) -> i64
-    requires { IsNear second }
-    ensures { result ≡ footer_total (footer_shown footer.now) second }
+/// Whether what a footer puts in force is of a kind.
+pub(crate) fn is_held(held: &Held<'_>, kind: &Record<'_>) -> bool
+    ensures { IsTrue result ↔ (held_shown held.now ≡ record_shown kind.now) }
 {
-    i64::from(footer.held_at(second).offset().whole_seconds())
+    held.to_utc().whole_seconds() == kind.utoff
+        && held.is_dst() == kind.is_dst
+        && held.name() == kind.name
 }
 
-/// A later second up to which the total stays as it is.
+/// Whether what a footer puts in force at a second is of a kind.
+fn is_held_at(footer: &Footer<'_>, second: i64, kind: &Record<'_>) -> bool
+    requires { IsNear second }
+    ensures { IsTrue result ↔ (held_at (footer_shown footer.now) second ≡ record_shown kind.now) }
+{
+    is_held(&footer.held_at(second), kind)
+}
+
+/// A later second up to which what a footer puts in force stays as it is.
 fn next_change(footer: &Footer<'_>, second: i64) -> i64
     requires { IsNear second }
     ensures later { second <ℤ result }
-    ensures same { (t : ℤ) → second ≤ℤ t → t <ℤ result → footer_total (footer_shown footer.now) t ≡ footer_total (footer_shown footer.now) second }
+    ensures same { (t : ℤ) → second ≤ℤ t → t <ℤ result → held_at (footer_shown footer.now) t ≡ held_at (footer_shown footer.now) second }
 {
     footer.next_change(second)
 }
 
-/// Whether a footer has one total from a second up to, without, another.
-fn is_constant(footer: &Footer<'_>, low: i64, high: i64, total: i64) -> bool
+/// Whether a footer puts one kind in force from a second up to, without, another.
+fn is_constant(footer: &Footer<'_>, low: i64, high: i64, kind: &Record<'_>) -> bool
     requires low { IsNear low }
     requires high { IsNear high }
-    ensures { IsTrue result ↔ ((s : ℤ) → low ≤ℤ s → s <ℤ high → footer_total (footer_shown footer.now) s ≡ total) }
+    ensures { IsTrue result ↔ ((s : ℤ) → low ≤ℤ s → s <ℤ high → held_at (footer_shown footer.now) s ≡ record_shown kind.now) }
 {
     let mut from = low;
     'pieces: while from < high {
-        if total_at(footer, from) != total {
+        if !is_held_at(footer, from, kind) {
             return false;
         }
         from = next_change(footer, from);
@@ -70,7 +82,7 @@ fn sooner(second: i64) -> i64
     }
 }
 
-/// Whether a footer gives the total that an entry puts in force, where it agrees from the next entry on.
+/// Whether a footer says what an entry puts in force, where it agrees from the next entry on.
 fn agrees_in_span<S: SpanTable>(footer: &Footer<'_>, set: &S, entry: usize) -> bool
     requires accepted { IsAccepted (schedule_of (S.seen set.now)) }
     requires within { entry < length (S.seen set.now).others }
@@ -84,7 +96,7 @@ fn agrees_in_span<S: SpanTable>(footer: &Footer<'_>, set: &S, entry: usize) -> b
     if high <= low {
         return true;
     }
-    is_constant(footer, low, high, total_of(set, entry + 1))
+    is_constant(footer, low, high, &kind_at(Saves::Any, set, entry + 1))
 }
 
 /// Whether a footer agrees from an entry on, where it does from the next one on.

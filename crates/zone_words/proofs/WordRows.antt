@@ -7,7 +7,7 @@ use Rattle.zone_moments.specs.{Readings.{digits_at, fraction_at, front_at, secon
 use Rattle.zone_moments.specs.declared.answer_form.AnswerForm.TheVariants.{People, Rfc3339, Epoch, Json}
 use Rattle.zone_moments.specs.declared.fault.TextFault.TheVariants as text
 use Rattle.zone_words.specs.{Arguments.{task_in}, Faults.{Reading}, Sorted.{put_any, put_option, put_word}}
-use Rattle.zone_words.specs.{Tasks.{AlarmAsked, TaskAsked, WordsAsked, help, version, at_instants, local_time, converted, list_changes, alarm, names, stream, log, tree, file, posix_string, chart}, Values.{date_in, time_in, number_of, year_of}, Words.{words_in}}
+use Rattle.zone_words.specs.{Tasks.{AlarmAsked, TaskAsked, WordsAsked, help, version, at_instants, local_time, converted, list_changes, alarm, names, stream, log, tree, file, posix_string, chart, plain_form}, Values.{date_in, time_in, number_of, year_of}, Words.{words_in}}
 use Rattle.zone_words.specs.declared.{command.Command.TheVariants.{At}, fault.WordCause.{WordCause}, task.FoldRule.TheVariants.{First, Second, Both}, task.GapRule.TheVariants.{Skip, Before, After}}
 use Rattle.zone_words.specs.declared.fault.WordCause.TheVariants as cause
 
@@ -76,7 +76,8 @@ asked =
     (codes "names", people (names None)) ∷ (codes "names|Berlin|--json", asks None Json (names (Some (codes "Berlin")))) ∷
     (codes "stream|--json", asks None Json (stream false)) ∷ (codes "stream|--epoch", asks None Epoch (stream false)) ∷ (codes "stream", people (stream false)) ∷ (codes "stream|--plain", people (stream true)) ∷
     (codes "log|UTC|--rfc3339", asks None Rfc3339 (log (codes "UTC") None)) ∷ (codes "log|UTC", people (log (codes "UTC") None)) ∷ (codes "--field|3|log|UTC", people (log (codes "UTC") (Some 3))) ∷
-    (codes "tree", people tree) ∷ (codes "file|UTC", people (file (codes "UTC"))) ∷
+    (codes "tree", people (tree false)) ∷ (codes "tree|--to-2099", people (tree true)) ∷ (codes "--source|a|tree|--to-2099", asks (Some (codes "a")) People (tree true)) ∷
+    (codes "plain|a b.zi", asks (Some (codes "a b.zi")) People (plain_form (codes "a b.zi"))) ∷ (codes "plain|--|--source", asks (Some (codes "--source")) People (plain_form (codes "--source"))) ∷ (codes "file|UTC", people (file (codes "UTC"))) ∷
     (codes "string|UTC", people (posix_string (codes "UTC"))) ∷
     (codes "chart|UTC|2024", people (chart (codes "UTC" ∷ []) 2024)) ∷
     (codes "chart|a|b|c|d|e|f|g|h|9999", people (chart (map (λ c. c ∷ []) (codes "abcdefgh")) 9999)) ∷
@@ -96,16 +97,17 @@ faults =
     ++ because cause.ValueMissing (codes "--source?names|--source" ∷ [])
     ++ because cause.Twice (codes "--json?names|--json|--json|--x" ∷ codes "--epoch?names|--json|--epoch"
     ∷ codes "--until?what|--count|1|--until|x" ∷ codes "--json?stream|--plain|--json" ∷ codes "--plain?stream|--epoch|--plain"
-    ∷ [])
+    ∷ codes "--to-2099?tree|--to-2099|--to-2099" ∷ [])
     ++ because cause.OtherOption (codes "--json?file|UTC|--json" ∷ codes "--epoch?string|UTC|--epoch"
     ∷ codes "--rfc3339?--rfc3339|tree" ∷ codes "--json?chart|UTC|2024|--json" ∷ codes "--epoch?names|--epoch"
     ∷ codes "--rfc3339?names|--rfc3339" ∷ codes "--json?log|UTC|--json" ∷ codes "--json?tree|--json"
     ∷ codes "--json?string|UTC|--json" ∷ codes "--rfc3339?file|UTC|--rfc3339" ∷ codes "--epoch?chart|UTC|2024|--epoch"
     ∷ codes "--plain?at|UTC|now|--plain" ∷ codes "--from?names|--from|2024-10-27" ∷ codes "--field?alarm|UTC|07:30|--field|1"
-    ∷ [])
+    ∷ codes "--source?plain|a|--source|b" ∷ codes "--json?plain|a|--json" ∷ codes "--epoch?plain|a|--epoch"
+    ∷ codes "--to-2099?file|UTC|--to-2099" ∷ codes "--to-2099?plain|a|--to-2099" ∷ [])
     ++ because cause.TooFew (codes "at?at|UTC" ∷ codes "at?at" ∷ codes "local?local|UTC" ∷ codes "convert?convert|UTC|UTC"
-    ∷ codes "list?list|UTC|now" ∷ codes "file?file" ∷ codes "chart?chart|2024" ∷ [])
-    ++ because cause.TooMany (codes "then?list|UTC|now|now|then" ∷ codes "x?tree|x" ∷ codes "b?names|a|b"
+    ∷ codes "list?list|UTC|now" ∷ codes "file?file" ∷ codes "plain?plain" ∷ codes "chart?chart|2024" ∷ [])
+    ++ because cause.TooMany (codes "then?list|UTC|now|now|then" ∷ codes "x?tree|x" ∷ codes "b?plain|a|b" ∷ codes "b?names|a|b"
     ∷ codes "CEST?local|UTC|2024-10-27|02:30|CEST" ∷ codes "2024?chart|a|b|c|d|e|f|g|h|i|2024" ∷ [])
     ++ because (cause.Text text.CountMissing) (codes "@x?at|UTC|now|@x" ∷ [])
     ++ because (cause.Text text.MarkMissing) (codes "1729992600?at|UTC|1729992600" ∷ codes "-5?list|UTC|@1|-5" ∷ [])

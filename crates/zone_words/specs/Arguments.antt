@@ -1,7 +1,7 @@
 -- The words behind a command.
 use Rattle.std.specs.Prelude.{ℕ, ◌-◌, List, [], ◌∷◌, length, take, slice_index_or, Option, Some, None, Ok, nat_lt, codes, if◌then◌else◌}
 use Rattle.zone_words.specs.{Alarms.{alarm_in, if_told}, Faults.{Reading, wrong, ◌>>=◌}, Options.{GivenOption, has, value_of}}
-use Rattle.zone_words.specs.{Tasks.{TaskAsked, Word, alarm, at_instants, chart, converted, file, list_changes, local_time, log, names, posix_string, stream, tree}, Values.{instant_in, instants_in, number_in, text_in, year_in}}
+use Rattle.zone_words.specs.{Tasks.{TaskAsked, Word, alarm, at_instants, chart, converted, file, list_changes, local_time, log, names, plain_form, posix_string, stream, tree}, Values.{instant_in, instants_in, number_in, text_in, year_in}}
 use Rattle.zone_words.specs.declared.{command.Command.{Command}, fault.WordCause.TheVariants.{TooFew, TooMany}}
 use Rattle.zone_words.specs.declared.command.Command.TheVariants as command
 
@@ -89,7 +89,8 @@ task_in command.Alarm name words given = zone_alarm_in name words given
 task_in command.Names name words given = maybe_in words >>= (λ word. Ok (names word))
 task_in command.Stream name words given = alone words (stream (has given (codes "--plain")))
 task_in command.Log name words given = zone_log_in name words given
-task_in command.Tree name words given = alone words tree
+task_in command.Tree name words given = alone words (tree (has given (codes "--to-2099")))
 task_in command.File name words given = one_in name words >>= (λ zone. Ok (file zone))
 task_in command.String name words given = one_in name words >>= (λ zone. Ok (posix_string zone))
 task_in command.Chart name words given = chart_in name words
+task_in command.Plain name words given = one_in name words >>= (λ path. Ok (plain_form path))

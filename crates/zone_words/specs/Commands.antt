@@ -2,7 +2,7 @@
 use Rattle.std.specs.Prelude.{ℕ, Bool, true, false, ◌||◌, not, ◌==◌, List, [], ◌∷◌, Option, Some, None, bytes_eq, codes, if◌then◌else◌}
 use denote.Enum.Declared.{tag_of as place_among}
 use Rattle.zone_words.specs.contracts.command.Command.{the_type as commands}
-use Rattle.zone_words.specs.declared.command.Command.{Command, TheVariants.{At, Local, Convert, List as ListOf, Alarm, Names, Stream, Log, Tree, File, String, Chart}}
+use Rattle.zone_words.specs.declared.command.Command.{Command, TheVariants.{At, Local, Convert, List as ListOf, Alarm, Names, Stream, Log, Tree, File, String, Chart, Plain}}
 
 -- what the first pair stands for whose text is the word
 abbrev pub standing_for : {A : Type 0} → List (List ℕ × A) → List ℕ → Option A
@@ -13,7 +13,7 @@ abbrev pub command_named : List ℕ → Option Command
 command_named =
     standing_for ((codes "at", At) ∷ (codes "local", Local) ∷ (codes "convert", Convert) ∷ (codes "list", ListOf) ∷ (codes "alarm", Alarm)
     ∷ (codes "names", Names) ∷ (codes "stream", Stream) ∷ (codes "log", Log) ∷ (codes "tree", Tree) ∷ (codes "file", File)
-    ∷ (codes "string", String) ∷ (codes "chart", Chart) ∷ [])
+    ∷ (codes "string", String) ∷ (codes "chart", Chart) ∷ (codes "plain", Plain) ∷ [])
 
 abbrev pub is_alarm_option : List ℕ → Bool
 is_alarm_option name =
@@ -24,12 +24,13 @@ is_alarm_option name =
 abbrev pub is : Command → Command → Bool
 is command other = place_among commands command == place_among commands other
 
--- what is written are no lines of times: an archive, a file, a string or a picture
+-- what is written are no lines of times: an archive, a file, a string, a picture or a source
 abbrev pub makes_whole : Command → Bool
 makes_whole Tree = true
 makes_whole File = true
 makes_whole String = true
 makes_whole Chart = true
+makes_whole Plain = true
 makes_whole _ = false
 
 -- what is written are times, which have a form
@@ -40,11 +41,13 @@ tells_times command = not (is Names command || makes_whole command)
 abbrev pub has_objects : Command → Bool
 has_objects command = not (is Log command || makes_whole command)
 
--- the source goes with every command
+-- the source goes with every command but the one that names its file itself
 abbrev pub takes : Command → List ℕ → Bool
 takes command name =
     if is_alarm_option name then is Alarm command
     else (if bytes_eq name (codes "--plain") then is Stream command
     else (if bytes_eq name (codes "--field") then is Log command
+    else (if bytes_eq name (codes "--to-2099") then is Tree command
+    else (if bytes_eq name (codes "--source") then not (is Plain command)
     else (if bytes_eq name (codes "--json") then has_objects command
-    else (if bytes_eq name (codes "--rfc3339") || bytes_eq name (codes "--epoch") then tells_times command else true))))
+    else (if bytes_eq name (codes "--rfc3339") || bytes_eq name (codes "--epoch") then tells_times command else true))))))

@@ -21,6 +21,7 @@ abbrev pub is_flag : List ℕ → Bool
 is_flag word =
     bytes_eq word (codes "--rfc3339") || bytes_eq word (codes "--epoch") || bytes_eq word (codes "--json")
     || bytes_eq word (codes "--help") || bytes_eq word (codes "--version") || bytes_eq word (codes "--plain")
+    || bytes_eq word (codes "--to-2099")
 
 -- the end of an alarm
 abbrev pub is_end : List ℕ → Bool

@@ -1,7 +1,7 @@
 -- What the code's answers show.
 use Rattle.std.specs.Prelude.{map, option_map}
 use Rattle.zone_moments.specs.Shown.{asked}
-use Rattle.zone_words.specs.{Shown.{word_shown}, Tasks.{AlarmAsked, TaskAsked, WordsAsked, help, version, at_instants, local_time, converted, list_changes, alarm, names, stream, log, tree, file, posix_string, chart}, declared.task.Alarm.{Alarm}}
+use Rattle.zone_words.specs.{Shown.{word_shown}, Tasks.{AlarmAsked, TaskAsked, WordsAsked, help, version, at_instants, local_time, converted, list_changes, alarm, names, stream, log, tree, file, posix_string, chart, plain_form}, declared.task.Alarm.{Alarm}}
 use Rattle.zone_words.specs.declared.task.{Asked.{Asked}, Task.{Task}}
 use Rattle.zone_words.specs.declared.task.Task.TheVariants as task
 
@@ -28,10 +28,11 @@ task_shown (task.Alarm zone a) = alarm zone.now (alarm_shown a)
 task_shown (task.Names word) = names (option_map word_shown word)
 task_shown (task.Stream plain) = stream plain
 task_shown (task.Log zone field) = log zone.now field
-task_shown task.Tree = tree
+task_shown (task.Tree to_2099) = tree to_2099
 task_shown (task.File zone) = file zone.now
 task_shown (task.String zone) = posix_string zone.now
 task_shown (task.Chart zones year) = chart (map word_shown zones.items) year
+task_shown (task.Plain path) = plain_form path.now
 
 abbrev pub words_shown : Asked → WordsAsked
 words_shown a = record { source = option_map word_shown a.source; form = a.form; task = task_shown a.task }

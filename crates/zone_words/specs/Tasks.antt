@@ -33,10 +33,11 @@ pub data TaskAsked : Type 0 where
   names : Option Word → TaskAsked
   stream : Bool → TaskAsked
   log : Word → Option ℕ → TaskAsked
-  tree : TaskAsked
+  tree : Bool → TaskAsked
   file : Word → TaskAsked
   posix_string : Word → TaskAsked
   chart : List Word → ℕ → TaskAsked
+  plain_form : Word → TaskAsked
 
 -- the file of the source, where it is named; the form of the answers; what is to be done
 pub record WordsAsked : Type 0 where

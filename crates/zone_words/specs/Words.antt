@@ -1,7 +1,7 @@
 -- What words ask, or their first fault.
 use Rattle.std.specs.{Prelude.{List, [], ◌∷◌, Option, Some, None, Ok, codes, if◌then◌else◌}, Option.{option_map_or}}
 use Rattle.zone_moments.specs.declared.answer_form.AnswerForm.{AnswerForm, TheVariants.{People, Rfc3339, Epoch, Json}}
-use Rattle.zone_words.specs.{Arguments.{task_in}, Commands.{command_named, takes}, Faults.{Reading, wrong, ◌>>=◌}, Options.{GivenOption, has, value_of}, Sorted.{sorted}, Tasks.{TaskAsked, Word, WordsAsked, help, version}, declared.command.Command.{Command}}
+use Rattle.zone_words.specs.{Arguments.{task_in}, Commands.{command_named, takes}, Faults.{Reading, wrong, ◌>>=◌}, Options.{GivenOption, has, value_of}, Sorted.{sorted}, Tasks.{TaskAsked, Word, WordsAsked, help, plain_form, version}, declared.command.Command.{Command}}
 use Rattle.zone_words.specs.declared.fault.WordCause.TheVariants.{CommandMissing, OtherOption, UnknownCommand}
 
 -- for people where no form is told
@@ -32,8 +32,13 @@ abbrev pub whole_task : List Word → List GivenOption → Reading TaskAsked
 whole_task words given =
     if has given (codes "--help") then help_in words else (if has given (codes "--version") then Ok version else of_command words given)
 
+-- the file of the source, where words name it: that of a plain form, else the one behind the option
+abbrev pub source_in : TaskAsked → List GivenOption → Option Word
+source_in (plain_form path) given = Some path
+source_in task given = value_of given (codes "--source")
+
 unfoldable pub words_in : List Word → Reading WordsAsked
 words_in words = do
   s ← sorted words
   task ← whole_task s.words s.given
-  Ok (record { source = value_of s.given (codes "--source"); form = form_in s.given; task = task })
+  Ok (record { source = source_in task s.given; form = form_in s.given; task = task })

@@ -166,9 +166,10 @@ pub(crate) fn task_in<'w>(
         Command::Names => maybe_in(words).map(Task::Names),
         Command::Stream => alone(words, Task::Stream(has(given, "--plain"))),
         Command::Log => zone_log_in(name, words, given),
-        Command::Tree => alone(words, Task::Tree),
+        Command::Tree => alone(words, Task::Tree(has(given, "--to-2099"))),
         Command::File => one_in(name, words).map(Task::File),
         Command::String => one_in(name, words).map(Task::String),
         Command::Chart => chart_in(alloc, name, words),
+        Command::Plain => one_in(name, words).map(Task::Plain),
     }
 }

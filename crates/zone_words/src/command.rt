@@ -29,6 +29,8 @@ pub enum Command {
     String,
     /// A picture of offsets.
     Chart,
+    /// The plain form of a source.
+    Plain,
 }
 
 /// What the first row stands for whose text is the word.
@@ -60,6 +62,7 @@ pub(crate) fn command_named(word: &str) -> Option<Command>
         "file" => Some(Command::File),
         "string" => Some(Command::String),
         "chart" => Some(Command::Chart),
+        "plain" => Some(Command::Plain),
         _ => None,
     }
 }
@@ -80,7 +83,12 @@ fn tells_times(command: Command) -> bool
 {
     !matches!(
         command,
-        Command::Names | Command::Tree | Command::File | Command::String | Command::Chart
+        Command::Names
+            | Command::Tree
+            | Command::File
+            | Command::String
+            | Command::Chart
+            | Command::Plain
     )
 }
 
@@ -90,7 +98,12 @@ fn has_objects(command: Command) -> bool
 {
     !matches!(
         command,
-        Command::Log | Command::Tree | Command::File | Command::String | Command::Chart
+        Command::Log
+            | Command::Tree
+            | Command::File
+            | Command::String
+            | Command::Chart
+            | Command::Plain
     )
 }
 
@@ -104,6 +117,8 @@ pub(crate) fn takes(command: Command, name: &str) -> bool
     match name {
         "--plain" => matches!(command, Command::Stream),
         "--field" => matches!(command, Command::Log),
+        "--to-2099" => matches!(command, Command::Tree),
+        "--source" => !matches!(command, Command::Plain),
         "--json" => has_objects(command),
         "--rfc3339" | "--epoch" => tells_times(command),
         _ => true,

@@ -27,7 +27,7 @@ pub(crate) fn is_flag(word: &str) -> bool
 {
     matches!(
         word,
-        "--rfc3339" | "--epoch" | "--json" | "--help" | "--version" | "--plain"
+        "--rfc3339" | "--epoch" | "--json" | "--help" | "--version" | "--plain" | "--to-2099"
     )
 }
 

@@ -1,6 +1,6 @@
 //! What words ask.
 ghost use Rattle.std.specs.Prelude.{◌≡◌, map, option_map, string_bytes};
-ghost use Rattle.zone_words.specs.{Shown.{given_shown, word_shown}, TaskShown.{task_shown, words_shown}, Told.{Reads}, Words.{command_in, form_in, help_in, of_command, other_option, whole_task, words_in}};
+ghost use Rattle.zone_words.specs.{Shown.{given_shown, word_shown}, TaskShown.{task_shown, words_shown}, Told.{Reads}, Words.{command_in, form_in, help_in, of_command, other_option, source_in, whole_task, words_in}};
 
 use crate::arguments::task_in;
 use crate::command::{command_named, takes};
@@ -89,6 +89,16 @@ fn whole_task<'w>(alloc: Global, words: &[&'w str], given: &[Given<'w>]) -> Read
     of_command(alloc, words, given)
 }
 
+/// The file of the source, where words name it.
+fn source_in<'w>(task: &Task<'w>, given: &[Given<'w>]) -> Option<&'w str>
+    ensures { option_map word_shown result ≡ source_in (task_shown task.now) (map given_shown given.now) }
+{
+    match task {
+        Task::Plain(file) => Some(*file),
+        _ => value_of(given, "--source"),
+    }
+}
+
 /// What words ask, without the name of the program.
 ///
 /// # Errors
@@ -105,7 +115,7 @@ pub fn read_words<'w>(alloc: Global, words: &'w [String]) -> Result<Asked<'w>, W
     let given = sorted.given.as_slice();
     let task = whole_task(alloc, sorted.words.as_slice(), given)?;
     Ok(Asked {
-        source: value_of(given, "--source"),
+        source: source_in(&task, given),
         form: form_in(given),
         task,
     })

@@ -70,20 +70,22 @@ pub enum Task<'w> {
     Stream(bool),
     /// A log with local times in place of those at the front of its lines, or in the field of that number, which counts from 1.
     Log(&'w str, Option<u16>),
-    /// The archive of all compiled files.
-    Tree,
+    /// The archive of all compiled files, and whether of zones to the end of 2099, where else they go on for ever.
+    Tree(bool),
     /// A compiled file.
     File(&'w str),
     /// A string of POSIX.
     String(&'w str),
     /// A picture of the offsets of one to eight zones over a year.
     Chart(Vec<&'w str>, u16),
+    /// The plain form of the source in that file.
+    Plain(&'w str),
 }
 
 /// What words ask.
 #[derive(Drop)]
 pub struct Asked<'w> {
-    /// The file of the source, where it is named.
+    /// The file of the source, where it is named: by a task, or by an option.
     pub source: Option<&'w str>,
     /// How answers are written.
     pub form: AnswerForm,

@@ -1,6 +1,5 @@
-use Rattle.std.proofs.{Common.{◌≡◌, ℤ, pos, ◌-ℤ◌, IsTrue, FitsSigned, w32, w64, to_z, of_z, to_z-of_z, rules, sym, ap, ◌∙◌, subst, arith}, lemmas.Int.{ints}}
-use Rattle.basics.specs.ComparisonLaws.{le_from_fail}
-use Rattle.civil_base.specs.Instants.{instant_at, seconds_of}
+use Rattle.std.proofs.{Common.{FitsSigned, w32, w64, to_z-of_z, rules, ap, ◌∙◌, arith}, lemmas.Int.{ints}}
+use Rattle.civil_base.specs.Instants.{seconds_of}
 use Rattle.sefunjaro.proofs.{FoundLemmas.{at_utc}, GapLemmas.{skipped_at}}
 use Rattle.sefunjaro.proofs.gap.near_gap.Goals as goal
 

@@ -2,7 +2,7 @@ use Rattle.std.proofs.{Common.{◌∙◌, ap, ◌≤ℤ◌, ◌<ℤ◌, SFits, r
 use Rattle.std.specs.Int.{int_min}
 use Rattle.basics.specs.SignedLaws.{signed}
 use Rattle.zone_spans.specs.Schedules.{total_at}
-use Rattle.tz_ever.{specs.{EverShown.{ever_seen}, Unrolled.{next_seam_second}}, proofs.StretchLemmas.{first_begin, first_end, first_is}}
+use Rattle.tz_ever.{specs.{ZoneShown.{zone_set_of}, Unrolled.{next_seam_second}}, proofs.StretchLemmas.{first_begin, first_end, first_is}}
 use Rattle.tz_ever.proofs.stretch.first_stretch.Goals as goal
 use Rattle.tz_lookup.specs.{CompactShown.{seen}, Stretches.{IsStretch, stretch_begin, stretch_end}}
 use Rattle.tz_zone.specs.{Sets.{schedule_of}, declared.set.FixedTimespanSet.{FixedTimespanSet}}
@@ -14,7 +14,7 @@ returns-clause-is c =
     let end : SFits w64 found.until = search rules in
     let until : SFits w64 c.to_seam-until.result = search rules in
     let offset : SFits w32 found.offset = search rules in
-    first_is (ever_seen c.args.ever.now) c.args.second c.to_seam-until.result found _ c.requires
+    first_is (zone_set_of c.args.ever.now) c.args.second c.to_seam-until.result found _ c.requires
     (subst (λ (s : FixedTimespanSet). IsStretch (total_at (schedule_of s)) c.args.second found) c.compact.ensures.seen
     (subst (λ t. IsStretch (total_at (schedule_of (seen c.compact.result.now))) t found) (to_z-of_z w64 _ c.ranges.second) c.stretch_of-found.ensures.is))
     c.to_seam-until.ensures.seam (subst (λ t. c.to_seam-until.result ≤ℤ t) (to_z-of_z w64 _ end) c.to_seam-until.ensures.second)
@@ -34,7 +34,7 @@ returns-clause-from c =
     let found = c.stretch_of-found.result in
     let fits : SFits w64 found.from = search rules in
     let second = to_z-of_z w64 _ c.ranges.second in
-    first_begin (ever_seen c.args.ever.now) c.args.second _ c.requires
+    first_begin (zone_set_of c.args.ever.now) c.args.second _ c.requires
     (to_z-of_z w64 _ fits ∙ c.stretch_of-found.ensures.from ∙ (λ i. stretch_begin (schedule_of (c.compact.ensures.seen i)) (second i)))
 
 pub returns-clause-until : goal.returns-clause-until
@@ -43,6 +43,6 @@ returns-clause-until c =
     let fits : SFits w64 found.until = search rules in
     let until : SFits w64 c.to_seam-until.result = search rules in
     let second = to_z-of_z w64 _ c.ranges.second in
-    first_end (ever_seen c.args.ever.now) c.args.second _ c.requires
+    first_end (zone_set_of c.args.ever.now) c.args.second _ c.requires
     (to_z-of_z w64 _ until ∙ c.to_seam-until.ensures.is
     ∙ ap (λ s. int_min s next_seam_second) (to_z-of_z w64 _ fits ∙ c.stretch_of-found.ensures.until ∙ (λ i. stretch_end (schedule_of (c.compact.ensures.seen i)) (second i))))

@@ -2,14 +2,14 @@ use Rattle.std.proofs.{Common.{◌≡◌, ◌∙◌, ◌*◌, pos, ◌+ℤ◌, �
 use Rattle.std.specs.Int.{int_max, int_min}
 use Rattle.basics.specs.SignedLaws.{signed}
 use Rattle.zone_spans.specs.Schedules.{total_at}
-use Rattle.tz_ever.{specs.{EverShown.{ever_seen}, Unrolled.{next_seam_second, seam_second}}, proofs.StretchLemmas.{later_begin, later_end, later_is}}
+use Rattle.tz_ever.{specs.{ZoneShown.{zone_set_of}, Unrolled.{next_seam_second, seam_second}}, proofs.StretchLemmas.{cycle_begins, later_begin, later_end, later_is}}
 use Rattle.tz_ever.proofs.stretch.later_stretch.Goals as goal
 use Rattle.tz_lookup.specs.{CompactShown.{seen}, Stretches.{IsStretch, stretch_begin, stretch_end}}
 use Rattle.tz_zone.specs.{Sets.{schedule_of}, declared.set.FixedTimespanSet.{FixedTimespanSet}}
 
 pub returns-clause-is : goal.returns-clause-is
 returns-clause-is c =
-    let set = ever_seen c.args.ever.now in
+    let set = zone_set_of c.args.ever.now in
     let k = c.args.cycles in
     let found = c.stretch_of-found.result in
     let v = c.earlier.result in
@@ -75,7 +75,7 @@ returns-clause-from c = λ some.
     let from_later : SFits w64 c.later-from.result = search rules in
     let v_is : v ≡ c.args.second -ℤ pos (k * 12622780800) =
     c.earlier.ensures ∙ ap (λ s. s -ℤ pos (k * 12622780800)) (to_z-of_z w64 _ c.ranges.second) in
-    later_begin (ever_seen c.args.ever.now) c.args.second v _ k some (omega (arith, signed, v_is))
+    later_begin (zone_set_of c.args.ever.now) c.args.second v _ k some (omega (arith, signed, v_is))
     (omega (arith, signed, v_is, c.requires.begun)) (omega (arith, signed, v_is, c.requires.lasts))
     (to_z-of_z w64 _ from_later ∙ c.later-from.ensures ∙ ap (λ s. s +ℤ pos (k * 12622780800)) (to_z-of_z w64 _ from ∙ c.from_seam.ensures.is
     ∙ ap (λ s. int_max s seam_second) (to_z-of_z w64 _ begin ∙ c.stretch_of-found.ensures.from
@@ -91,8 +91,30 @@ returns-clause-until c =
     let until_later : SFits w64 c.later-until.result = search rules in
     let v_is : v ≡ c.args.second -ℤ pos (k * 12622780800) =
     c.earlier.ensures ∙ ap (λ s. s -ℤ pos (k * 12622780800)) (to_z-of_z w64 _ c.ranges.second) in
-    later_end (ever_seen c.args.ever.now) c.args.second v _ k (omega (arith, signed, v_is))
+    later_end (zone_set_of c.args.ever.now) c.args.second v _ k (omega (arith, signed, v_is))
     (omega (arith, signed, v_is, c.requires.begun)) (omega (arith, signed, v_is, c.requires.lasts))
     (to_z-of_z w64 _ until_later ∙ c.later-until.ensures ∙ ap (λ s. s +ℤ pos (k * 12622780800)) (to_z-of_z w64 _ until ∙ c.to_seam.ensures.is
     ∙ ap (λ s. int_min s next_seam_second) (to_z-of_z w64 _ end ∙ c.stretch_of-found.ensures.until
     ∙ (λ i. stretch_end (schedule_of (c.compact.ensures.seen i)) (to_z-of_z w64 v v_fits i)))))
+
+pub returns-clause-begin : goal.returns-clause-begin
+returns-clause-begin c =
+    let k = c.args.cycles in
+    let v = c.earlier.result in
+    let v_fits : SFits w64 v = search rules in
+    let begin : SFits w64 c.stretch_of-found.result.from = search rules in
+    let from : SFits w64 c.from_seam.result = search rules in
+    let from_later : SFits w64 c.later-from.result = search rules in
+    let v_is : v ≡ c.args.second -ℤ pos (k * 12622780800) =
+    c.earlier.ensures ∙ ap (λ s. s -ℤ pos (k * 12622780800)) (to_z-of_z w64 _ c.ranges.second) in
+    cycle_begins (zone_set_of c.args.ever.now) c.args.second v _ k (omega (arith, signed, v_is))
+    (omega (arith, signed, v_is, c.requires.begun)) (omega (arith, signed, v_is, c.requires.lasts))
+    (to_z-of_z w64 _ from_later ∙ c.later-from.ensures ∙ ap (λ s. s +ℤ pos (k * 12622780800)) (to_z-of_z w64 _ from ∙ c.from_seam.ensures.is
+    ∙ ap (λ s. int_max s seam_second) (to_z-of_z w64 _ begin ∙ c.stretch_of-found.ensures.from
+    ∙ (λ i. stretch_begin (schedule_of (c.compact.ensures.seen i)) (to_z-of_z w64 v v_fits i)))))
+
+pub returns-clause-low : goal.returns-clause-low
+returns-clause-low c =
+    let from : SFits w64 c.from_seam.result = search rules in
+    let from_later : SFits w64 c.later-from.result = search rules in
+    omega (arith, signed, to_z-of_z w64 _ from_later, c.later-from.ensures, to_z-of_z w64 _ from, c.from_seam.ensures.seam)

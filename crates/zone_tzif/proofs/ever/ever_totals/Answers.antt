@@ -1,13 +1,7 @@
-use Rattle.std.proofs.Common.{◌∙◌, ap, subst}
-use Rattle.tz_tzif.specs.{Faults.{SaysInFooter}, InForce.{told_total_at}}
-use Rattle.zone_tzif_core.specs.Zones.{ZoneValue}
-use Rattle.zone_tzif.{specs.EverFiles.{ever_zone}, proofs.EverLemmas.{shows}}
+use Rattle.std.proofs.Common.{◌∙◌, ap, sym}
+use Rattle.zone_tzif.proofs.KindLemmas.{ever_total-is}
 use Rattle.zone_tzif.proofs.ever.ever_totals.Goals as goal
 
 pub returns : goal.returns
 returns c = λ set bytes zone footer t file read says reach.
-    let value = ever_zone set file.footer in
-    let is = c.one_reading.ensures bytes zone value read (c.each_denotes.ensures _ bytes value file.is) in
-    ap (λ (z : ZoneValue). told_total_at z footer t) is
-    ∙ shows c.file_totals.ensures.before c.file_totals.ensures.after set file.from file.footer footer t (c.one_footer.ensures file.footer) file.tail
-    (subst (λ (z : ZoneValue). SaysInFooter z.footer footer) is says) reach
+    ap (λ kind. kind.utoff) (c.ever_kinds.ensures set bytes zone footer t file read says reach) ∙ sym (ever_total-is set t)

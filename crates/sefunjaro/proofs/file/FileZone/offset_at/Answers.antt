@@ -1,4 +1,4 @@
-use Rattle.std.proofs.Common.{◌≡◌, ◌∙◌, to_z-of_z, FitsSigned, w32, w64, rules, sym, ap}
+use Rattle.std.proofs.Common.{◌∙◌, to_z-of_z, FitsSigned, w32, w64, rules, ap}
 use Rattle.tz_tzif.specs.InForce.{kind_at, total_in}
 use Rattle.sefunjaro.specs.Files.{file_value}
 use Rattle.sefunjaro.proofs.file.FileZone.offset_at.Goals as goal

@@ -1,4 +1,4 @@
-use Rattle.std.proofs.Common.{◌≡◌, IfSome, FitsSigned, w32, w64, to_z-of_z, rules, sym, subst}
+use Rattle.std.proofs.Common.{IfSome, FitsSigned, w32, w64, to_z-of_z, rules, subst}
 use Rattle.tz_tzif.specs.{InForce.{total_in}, Lasting.{IsTold}, Zones.{value_of, says_of}}
 use Rattle.sefunjaro.proofs.GapLemmas.{stretch_told}
 use Rattle.sefunjaro.proofs.offsets.TzifTzStretches.around.Goals as goal

@@ -1,36 +1,19 @@
-use Rattle.std.{proofs.Common.{◌≡◌, ◌∙◌, ℤ, false, sym, ap, subst, to_z-of_z}, specs.Prelude.{IfOk, IsErrOf}}
+use Rattle.std.{proofs.Common.{◌≡◌, ℤ, false, subst, to_z-of_z}, specs.Prelude.{IfOk, IsErrOf}}
 use Rattle.tz_zone.specs.declared.set.FixedTimespanSet.{FixedTimespanSet}
 use Rattle.zone_list.specs.{Ranges.{all_have_dates}, Rows.{rows}, Windows.{window}, declared.listing.ListFault.TheVariants.{Range}}
-use Rattle.sefunjaro.specs.Zones.{set_in, spans_with}
 use Rattle.sefunjaro.proofs.zone.OpenZone.lines_within.Goals as goal
 
 moved : (P : FixedTimespanSet → ℤ → ℤ → Type 0) (a b : FixedTimespanSet) (f g t u : ℤ) → a ≡ b → f ≡ g → t ≡ u → P a f t → P b g u
 moved P a b f g t u set from to h = subst (λ s. P s g u) set (subst (λ x. P a x u) from (subst (λ y. P a f y) to h))
 
-pub returns-in-Some-clause-lines : goal.returns-in-Some-clause-lines
-returns-in-Some-clause-lines c =
+pub returns-clause-lines : goal.returns-clause-lines
+returns-clause-lines c =
     let result = c.lines_of.result in
     moved (λ set from to. IfOk result (λ listing. listing ≡ rows (window set from to))) _ _ _ _ _ _
-    (c.new.ensures.seen ∙ sym (ap (spans_with (set_in c.args.self.now)) c.in-Some.is)) (to_z-of_z c.ranges.from) (to_z-of_z c.ranges.to)
-    c.lines_of.ensures.lines
+    c.new.ensures.seen (to_z-of_z c.ranges.from) (to_z-of_z c.ranges.to) c.lines_of.ensures.lines
 
-pub returns-in-Some-clause-range : goal.returns-in-Some-clause-range
-returns-in-Some-clause-range c =
+pub returns-clause-range : goal.returns-clause-range
+returns-clause-range c =
     let result = c.lines_of.result in
     moved (λ set from to. IsErrOf result Range → all_have_dates (window set from to) ≡ false) _ _ _ _ _ _
-    (c.new.ensures.seen ∙ sym (ap (spans_with (set_in c.args.self.now)) c.in-Some.is)) (to_z-of_z c.ranges.from) (to_z-of_z c.ranges.to)
-    c.lines_of.ensures.range
-
-pub returns-in-None-clause-lines : goal.returns-in-None-clause-lines
-returns-in-None-clause-lines c =
-    let result = c.lines_of-in-None.result in
-    moved (λ set from to. IfOk result (λ listing. listing ≡ rows (window set from to))) _ _ _ _ _ _
-    (c.compact.ensures ∙ sym (ap (spans_with (set_in c.args.self.now)) c.in-None.is)) (to_z-of_z c.ranges.from) (to_z-of_z c.ranges.to)
-    c.lines_of-in-None.ensures.lines
-
-pub returns-in-None-clause-range : goal.returns-in-None-clause-range
-returns-in-None-clause-range c =
-    let result = c.lines_of-in-None.result in
-    moved (λ set from to. IsErrOf result Range → all_have_dates (window set from to) ≡ false) _ _ _ _ _ _
-    (c.compact.ensures ∙ sym (ap (spans_with (set_in c.args.self.now)) c.in-None.is)) (to_z-of_z c.ranges.from) (to_z-of_z c.ranges.to)
-    c.lines_of-in-None.ensures.range
+    c.new.ensures.seen (to_z-of_z c.ranges.from) (to_z-of_z c.ranges.to) c.lines_of.ensures.range

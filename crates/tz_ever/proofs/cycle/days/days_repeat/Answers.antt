@@ -1,5 +1,5 @@
-use Rattle.tz_ever.proofs.cycle.DayLemmas.{day-repeats}
+use Rattle.tz_ever.proofs.cycle.DayLemmas.{date-repeats}
 use Rattle.tz_ever.proofs.cycle.days.days_repeat.Goals as goal
 
 pub returns : goal.returns
-returns c = day-repeats
+returns c = date-repeats

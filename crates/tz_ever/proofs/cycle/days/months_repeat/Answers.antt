@@ -1,5 +1,5 @@
-use Rattle.tz_ever.proofs.cycle.DayLemmas.{days_in_month-repeats}
+use Rattle.tz_ever.proofs.cycle.DayLemmas.{month-repeats}
 use Rattle.tz_ever.proofs.cycle.days.months_repeat.Goals as goal
 
 pub returns : goal.returns
-returns c = days_in_month-repeats
+returns c = month-repeats

@@ -1,7 +1,0 @@
-use Rattle.std.specs.FinMap.{get}
-use Rattle.tz_ever.proofs.ever_set.EverSet.carry_on.Goals as goal
-
-pub build-requires : goal.build-requires
-build-requires c =
-    let found = c.in_ok-set.ensures.ok in
-    c.repeats_at_the_seam.ensures (get c.args.table.now.rulesets) found.infos c.in_ok-set.set found.zone

@@ -1,4 +1,0 @@
-mod EverLemmas
-mod ListLemmas
-mod AlarmLemmas
-mod EverRows
