@@ -6,6 +6,7 @@ pub mod Paths
 pub mod Cycles
 pub mod Dates
 pub mod Days
+pub mod Offsets
 pub mod Weekdays
 -- Owned values:
 pub mod Bytes

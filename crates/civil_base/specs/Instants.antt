@@ -1,13 +1,6 @@
 -- Instants and local times, both in nanoseconds: those from 1970-01-01 00:00 UTC, and those from 1970-01-01 00:00 on the clock.
-use Rattle.std.specs.{Prelude.{ℤ, pos, ◌+ℤ◌, ◌-ℤ◌, ◌*ℤ◌}, Int.{int_div_euclid}}
-
--- the local time of the instant t where clocks are o seconds ahead of UTC
-abbrev pub local_at : ℤ → ℤ → ℤ
-local_at t o = t +ℤ pos 1000000000 *ℤ o
-
--- the instant at which those clocks show the local time x
-abbrev pub instant_at : ℤ → ℤ → ℤ
-instant_at x o = x -ℤ pos 1000000000 *ℤ o
+use Rattle.std.specs.{Prelude.{ℤ, pos, ◌*ℤ◌}, Int.{int_div_euclid}}
+pub use Rattle.basics.specs.Offsets.{local_at, instant_at}
 
 -- the nanoseconds of whole seconds
 abbrev pub nanos_of : ℤ → ℤ

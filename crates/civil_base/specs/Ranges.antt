@@ -1,5 +1,6 @@
 -- What dates, local times and offsets there are.
-use Rattle.std.specs.Prelude.{ℕ, Bool, ◌&&◌, IsTrue, ℤ, pos, neg_ℤ, ◌+ℤ◌, ◌*ℤ◌, ◌≤ℤ◌, int_le, int_lt, nat_le, unsigned_abs}
+use Rattle.std.specs.Prelude.{ℕ, Bool, ◌&&◌, IsTrue, ℤ, pos, neg_ℤ, ◌+ℤ◌, ◌*ℤ◌, ◌≤ℤ◌, int_le, int_lt}
+pub use Rattle.basics.specs.Offsets.{greatest_offset, is_offset, IsOffset}
 use Rattle.civil_base.specs.Clock.{nanos_per_day}
 
 -- the years of dates
@@ -32,17 +33,6 @@ is_in_years x = int_le first_time x && int_lt x end_of_times
 
 abbrev pub IsInYears : ℤ → Type 0
 IsInYears x = IsTrue (is_in_years x)
-
--- the seconds of the largest offset, 25:59:59
-abbrev pub greatest_offset : ℕ
-greatest_offset = 93599
-
--- so many seconds are an offset: less than 26 hours in size
-abbrev pub is_offset : ℤ → Bool
-is_offset o = nat_le (unsigned_abs o) greatest_offset
-
-abbrev pub IsOffset : ℤ → Type 0
-IsOffset o = IsTrue (is_offset o)
 
 -- so many seconds from 1970-01-01 00:00 UTC are further than any instant that has a local time
 abbrev pub far_seconds : ℕ

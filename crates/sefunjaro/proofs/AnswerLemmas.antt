@@ -8,8 +8,7 @@ use Rattle.zone_spans.specs.{Entries.{Entry}, declared.span.FixedTimespan.{Fixed
 use Rattle.tz_ever.specs.{InForce.{span_at, span_by}, Recurrences.{ZoneGives, zone_span, zone_total}, Unrolled.{IsTold, told, unrolled_end}}
 use Rattle.tz_ever.specs.declared.{recurrence.Recurrence.{Recurrence}, recurrence.Recurrence.TheVariants.{Never, Later, Always}}
 use Rattle.tz_tzif.specs.{FooterForce.{FooterZone}, InForce.{kind_at, kind_in}}
-use Rattle.tz_zone.specs.{Compiles.{spans_of}, InForce.{in_force, shown_of}, SecondLaws.{IsSecond, second_is, total_is}, Sets.{schedule_of, shift_of, shifts_of, span_in, total_of_span}, SpanLaws.{total_from_cut}, Spans.{IsCut}}
-use Rattle.tz_zone.specs.declared.set.FixedTimespanSet.{FixedTimespanSet}
+use Rattle.tz_lookup.specs.{Compiles.{spans_of}, InForce.{in_force, shown_of}, SecondLaws.{IsSecond, second_is, total_is}, Sets.{schedule_of, shift_of, shifts_of, span_in, total_of_span}, SpanLaws.{total_from_cut}, Spans.{IsCut}, declared.set.FixedTimespanSet.{FixedTimespanSet}}
 use Rattle.zone_tzif_core.specs.Zones.{ZoneValue}
 use Rattle.sefunjaro.specs.{Answers.{end_second, IsAnswered}, AnswerSteps.{IsAround, IsOfSpan, IsToldBySpan}, Changes.{last_span, saving_at}, Clocks.{clock_at}, Replies.{span_on}, declared.answer.Answer.{Answer}}
 use Rattle.sefunjaro.specs.declared.answer.Around.{Around}

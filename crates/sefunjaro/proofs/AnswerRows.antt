@@ -2,10 +2,9 @@
 use Rattle.std.{proofs.Common.{◌≡◌, cond, ℕ, ℤ, pos, negsuc, ◌≤ℤ◌, Bool, false, List, [], ◌∷◌, map, int_lt, refl, ap, arith}, specs.Prelude.{None}, proofs.lemmas.Int.{ints}}
 use Rattle.basics.specs.ComparisonLaws.{lt_fail}
 use Rattle.civil_base.specs.{Instants.{seconds_of}, Layout.{day_part, time_part}}
-use Rattle.tz_zone.specs.{SecondLaws.{second_is}, declared.set.FixedTimespanSet.{FixedTimespanSet}}
+use Rattle.tz_lookup.specs.{SecondLaws.{second_is}, declared.set.FixedTimespanSet.{FixedTimespanSet}, Stretches.{least_second}}
 use Rattle.zone_spans.specs.{Entries.{Entry}, declared.span.FixedTimespan.{FixedTimespan}}
 use Rattle.zone_tzif_core.specs.Zones.{KindValue}
-use Rattle.tz_lookup.specs.Stretches.{least_second}
 use Rattle.sefunjaro.specs.{Answers.{begun_at, end_second, ended_at, IsAnswer, IsAnswered, IsHeldOn}, Changes.{next_after, settled_changes}, Clocks.{clock_at}, Rooms.{filled}, declared.answer.Answer.{Answer}}
 
 abbrev jump : ℤ → ℤ

@@ -1,7 +1,7 @@
 -- Plain forms are short, and their faults are those of the text.
 use Rattle.std.{proofs.Common.{◌≡◌, ◌≤◌, ℕ, Bool, true, false, cond, List, ◌++◌, length, nat_lt, refl, subst, ap, arith}, specs.Prelude.{Result, Ok, Err, IfErr}}
-use Rattle.zone_values.specs.Results.{◌>>=◌}
-use Rattle.zone_plain_base.specs.LineFaults.{Refusal, by_line, too_long}
+use Rattle.zone_table.specs.Results.{◌>>=◌}
+use Rattle.zone_plain_lines.specs.LineFaults.{Refusal, by_line, too_long}
 use Rattle.zone_plain.specs.{Settled.{settled}, WrittenOut.{written_out}, Heads.{head_of}, LineValues.{values_in}, Plain.{if_short, plain_of}, Written.{written}}
 use Rattle.sefunjaro.proofs.CaseLemmas.{not_ok}
 use Rattle.sefunjaro.specs.{AnySources.{IsAnyFault, IsFormFault}, declared.any_source.AnySourceFault.{AnySourceFault}, declared.any_source.AnySourceFault.TheVariants.{TooLong, Line, PlainTooLong, Plain, NoMemory}, declared.source.OpenSource.{OpenSource}}

@@ -3,7 +3,7 @@ use Rattle.std.proofs.{Common.{◌≡◌, ◌+◌, ◌<◌, ◌≤◌, ℕ, zero
 use Rattle.std.specs.{Prelude.{◌&&◌, not, Option, Some, None, filter, int_le, int_lt}, List.{slice_get, slice_index_or}, Ordering.{int_eq}}
 use Rattle.basics.specs.ComparisonLaws.{le_pass, le_fail, lt_pass, lt_fail, lt_from_pass, lt_from_fail, eq_pass}
 use Rattle.zone_spans.specs.{Collapse.{is_same_span}, Entries.{Entry}, declared.span.FixedTimespan.{FixedTimespan}}
-use Rattle.tz_zone.specs.{Sets.{shift_of, shifts_of, span_in, total_of_span}, Spans.{shift_at, IsCut, TimesDontFall}, declared.set.FixedTimespanSet.{FixedTimespanSet}}
+use Rattle.tz_lookup.specs.{Sets.{shift_of, shifts_of, span_in, total_of_span}, Spans.{shift_at, IsCut, TimesDontFall}, declared.set.FixedTimespanSet.{FixedTimespanSet}}
 use Rattle.sefunjaro.specs.{Changes.{change_of, changes_of, is_within, last_span, next_after, saving_at, settled_changes, span_before, window}, ChangeSteps.{how_many, with_change, AreParted, HasPut, IsChangeAt}, Replies.{span_on}, Rooms.{filled, filled_at}}
 use Rattle.sefunjaro.specs.declared.changes.Change.{Change}
 use Rattle.sefunjaro.proofs.{AskLemmas.{all_taken, dropped}, CaseLemmas.{no_zero, next}}

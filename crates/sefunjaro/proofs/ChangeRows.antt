@@ -1,6 +1,6 @@
 -- Worked examples: the changes of a small zone, of which two entries lie at one second, what they change, and the saving in force.
 use Rattle.std.{proofs.Common.{◌≡◌, ℕ, ℤ, Bool, true, false, pos, negsuc, [], ◌∷◌, map, refl}, specs.Prelude.{Some, None, codes}}
-use Rattle.tz_zone.specs.declared.set.FixedTimespanSet.{FixedTimespanSet}
+use Rattle.tz_lookup.specs.declared.set.FixedTimespanSet.{FixedTimespanSet}
 use Rattle.sefunjaro.specs.{Changes.{changes_of, next_after, saving_at, settled_changes, span_before, window}, declared.changes.Change.{Change}}
 use Rattle.sefunjaro.proofs.RowSets.{span, with}
 

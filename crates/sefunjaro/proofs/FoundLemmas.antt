@@ -2,7 +2,7 @@
 use Rattle.std.proofs.{Common.{◌≡◌, ◌∙◌, ◌≤◌, ℕ, cond, List, [], ◌∷◌, length, get_or, ℤ, pos, ◌-ℤ◌, to_z, of_z, to_z-of_z, FitsSigned, w32, w64, unsigned_abs, refl, ap, arith}, lemmas.Bool.{le-ltb}, lemmas.Int.{ints}}
 use Rattle.basics.specs.SignedLaws.{signed_casts}
 use Rattle.civil_base.specs.{DateTimes.{instant, local_of, offset_of}, Instants.{instant_at, seconds_of}, Ranges.{far_seconds}, declared.offset_date_time.OffsetDateTime.{OffsetDateTime}}
-use Rattle.tz_zone.specs.SecondLaws.{IsSecond, one_second, second_is}
+use Rattle.tz_lookup.specs.SecondLaws.{IsSecond, one_second, second_is}
 use Rattle.sefunjaro.specs.{Found.{by_fold, found_of, IsFoundOf}, FoundSteps.{by_count}, Rooms.{filled}, declared.found.FoldRule.{FoldRule}, declared.found.FoldRule.TheVariants.{First, Second}, declared.found.Found.{Found}, declared.found.GapRule.{GapRule}}
 use Rattle.sefunjaro.specs.declared.zone.Reading.{Reading}
 

@@ -4,9 +4,8 @@ use Rattle.civil_base.specs.{Instants.{instant_at, local_at, nanos_of, seconds_o
 use Rattle.tz_tzif.specs.{FooterForce.{FooterZone}, Lasting.{IsTold}, InForce.{kind_at, kind_in, told_total_at, total_in}}
 use Rattle.basics.specs.ComparisonLaws.{le_itself}
 use Rattle.zone_spans.specs.Schedules.{Schedule, instants, last_total, total_at}
-use Rattle.tz_zone.specs.{InForce.{all_in_force, in_force}, InstantLaws.{instants_are}, SecondLaws.{IsSecond, second_is, one_second}}
+use Rattle.tz_lookup.specs.{InForce.{all_in_force, in_force}, InstantLaws.{instants_are}, SecondLaws.{IsSecond, second_is, one_second}, Stretches.{IsStretch}}
 use Rattle.zone_tzif_core.specs.Zones.{ZoneValue}
-use Rattle.tz_lookup.specs.Stretches.{IsStretch}
 use Rattle.sefunjaro.specs.{Gaps.{IsSkippedBy}, GapPlaces.{nth_offset, HoldsSeconds, IsNeverRead}}
 
 reads : (x k total : ℤ) → total ≡ k → (instant_at x k +ℤ pos 1000000000 *ℤ total) ≡ x

@@ -1,8 +1,7 @@
 -- The only instant of a local time that lies well within a stretch.
 use Rattle.std.{proofs.Common.{◌≡◌, [], ◌∷◌, map, ℤ, pos, ◌+ℤ◌, ◌-ℤ◌, ◌*ℤ◌, ◌≤ℤ◌, ◌<ℤ◌, refl, sym, ap, ◌∙◌, subst, arith}, specs.Prelude.{Contains}, proofs.lemmas.Int.{ints}}
 use Rattle.civil_base.specs.{Instants.{instant_at, nanos_of, seconds_of}, Ranges.{IsOffset}, RangeLaws.{offset_least, offset_greatest}}
-use Rattle.tz_zone.specs.{InForce.{all_in_force, in_force, AreInstants}, InstantLaws.{from_reading, instants_one, reads_back}, RisingLaws.{contains_head, cases_more}, SecondLaws.{second_is}}
-use Rattle.tz_lookup.specs.Stretches.{IsKnown}
+use Rattle.tz_lookup.specs.{InForce.{all_in_force, in_force, AreInstants}, InstantLaws.{from_reading, instants_one, reads_back}, RisingLaws.{contains_head, cases_more}, SecondLaws.{second_is}, Stretches.{IsKnown}}
 use Rattle.sefunjaro.specs.{Asked.{reading_of}, Found.{by_fold, found_of, IsFound, IsFoundOf}, GapPlaces.{HoldsSeconds}, Steadiness.{IsSteady}, declared.found.FoldRule.{FoldRule}, declared.found.FoldRule.TheVariants.{First, Second}}
 use Rattle.sefunjaro.specs.declared.{found.GapRule.{GapRule}, zone.Reading.{Reading}}
 use Rattle.sefunjaro.proofs.FoundLemmas.{second_by}

@@ -3,7 +3,7 @@ use Rattle.std.{proofs.Common.{◌≡◌, ◌≤◌, ℕ, zero, suc, ℤ, pos, �
 use Rattle.basics.specs.ComparisonLaws.{lt_pass, lt_fail, le_from_pass, le_from_fail}
 use Rattle.civil_base.specs.{DateTimes.{instant}, declared.offset_date_time.OffsetDateTime.{OffsetDateTime}}
 use Rattle.zone_spans.specs.{Entries.{Entry, total}, Schedules.{instants}}
-use Rattle.tz_zone.specs.{InForce.{all_in_force, in_force, shown_of}, Sets.{span_in, total_of_span}, declared.set.FixedTimespanSet.{FixedTimespanSet}}
+use Rattle.tz_lookup.specs.{InForce.{all_in_force, in_force, shown_of}, Sets.{span_in, total_of_span}, declared.set.FixedTimespanSet.{FixedTimespanSet}}
 use Rattle.sefunjaro.{specs.Changes.{last_span, span_before}, specs.Replies.{span_on}, specs.Rooms.{filled}, proofs.ChangeLemmas.{by_place}}
 
 -- the total of a span by its number

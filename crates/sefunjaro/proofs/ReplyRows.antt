@@ -1,8 +1,8 @@
 -- A worked example: what replies see of a small zone.
 use Rattle.std.{proofs.Common.{◌≡◌, ℤ, List, pos, negsuc, [], ◌∷◌, ℕ, map, refl}, specs.Prelude.{codes}}
 use Rattle.tz_ever.specs.declared.recurrence.Recurrence.TheVariants.{Never}
-use Rattle.zone_replies.specs.Views.{InForce}
-use Rattle.tz_zone.specs.declared.set.FixedTimespanSet.{FixedTimespanSet}
+use Rattle.zone_texts.specs.Views.{InForce}
+use Rattle.tz_lookup.specs.declared.set.FixedTimespanSet.{FixedTimespanSet}
 use Rattle.sefunjaro.specs.{Changes.{settled_changes, span_before, window}, Replies.{reply_view, span_on}}
 use Rattle.sefunjaro.proofs.RowSets.{span, with}
 

@@ -5,8 +5,7 @@ use Rattle.std.specs.{Prelude.{Option, Some, None, option_map, IfSome}, List.{sl
 use Rattle.basics.specs.ComparisonLaws.{eq_from_pass, le_pass, le_fail, lt_pass}
 use Rattle.civil_base.specs.Instants.{seconds_of}
 use Rattle.zone_spans.specs.Entries.{Entry}
-use Rattle.tz_zone.specs.{Sets.{shift_of, shifts_of}, Spans.{shift_at, IsCut}, declared.set.FixedTimespanSet.{FixedTimespanSet}}
-use Rattle.tz_lookup.specs.Stretches.{least_second, begin_second}
+use Rattle.tz_lookup.specs.{Sets.{shift_of, shifts_of}, Spans.{shift_at, IsCut}, declared.set.FixedTimespanSet.{FixedTimespanSet}, Stretches.{least_second, begin_second}}
 use Rattle.sefunjaro.specs.{Answers.{begun_at, end_second, ended_at, last_second, second_of_change, up_to_end, IsBetween}, AnswerSteps.{IsAround, IsToldBySpan}, Changes.{change_of, changes_of, next_after, settled_changes}}
 use Rattle.sefunjaro.specs.declared.{answer.Answer.{Answer}, answer.Around.{Around}, changes.Change.{Change}}
 use Rattle.sefunjaro.proofs.ChangeLemmas.{left_after, none_next}

@@ -4,8 +4,7 @@ use Rattle.zone_spans.specs.Schedules.{total_at}
 use Rattle.zone_table.specs.declared.table.Table.{Table}
 use Rattle.tz_ever.specs.{Ever.{ever_span, ever_total}, InForce.{span_at}, Opens.{IsFoundForEver}, Recurrences.{turned, zone_span, zone_total}, ZoneShown.{recurrence_of, zone_set_of}, declared.zone_set.ZoneSet.{ZoneSet}}
 use Rattle.tz_ever.specs.declared.{recurrence.Recurrence.{Recurrence}}
-use Rattle.tz_zone.specs.{Compiles.{IsCompiledAs, compiled_in, spans_of}, Sets.{schedule_of}, declared.set.FixedTimespanSet.{FixedTimespanSet}}
-use Rattle.tz_lookup.specs.declared.compact_set.CompactSet.{CompactSet}
+use Rattle.tz_lookup.specs.{Compiles.{IsCompiledAs, compiled_in, spans_of}, Sets.{schedule_of}, declared.set.FixedTimespanSet.{FixedTimespanSet}, declared.compact_set.CompactSet.{CompactSet}}
 use Rattle.sefunjaro.specs.{Zones.{ever_in, ever_with, recurrence_with, set_in, set_with, GoesOnAs, IsAsCompiled}, declared.zone.OpenZone.{OpenZone}}
 
 abbrev pub TodayLaw : Type 0

@@ -2,8 +2,7 @@
 use Rattle.std.specs.Prelude.{◌≡◌, ◌<◌, ◌≤◌, ℕ, ℤ, pos, ◌≤ℤ◌, ◌<ℤ◌, true, false, int_lt, List, length, Option, Some, None}
 use Rattle.civil_base.specs.{DateTimes.{instant, local_of, offset_of}, Instants.{local_at, seconds_of}, Layout.{day_part, time_part}, Ranges.{is_in_years}, declared.offset_date_time.OffsetDateTime.{OffsetDateTime}}
 use Rattle.zone_spans.specs.declared.span.FixedTimespan.{FixedTimespan}
-use Rattle.tz_zone.specs.{Sets.{shifts_of, span_in, total_of_span}, Spans.{shift_at, IsCut}, declared.set.FixedTimespanSet.{FixedTimespanSet}}
-use Rattle.tz_lookup.specs.Stretches.{begin_second, least_second}
+use Rattle.tz_lookup.specs.{Sets.{shifts_of, span_in, total_of_span}, Spans.{shift_at, IsCut}, declared.set.FixedTimespanSet.{FixedTimespanSet}, Stretches.{begin_second, least_second}}
 use Rattle.sefunjaro.specs.{Answers.{end_second, up_to_end}, Clocks.{clock_at}, Rooms.{filled}, declared.answer.Answer.{Answer}, declared.answer.Around.{Around}}
 
 -- a span of a set is in force throughout some seconds before the end, among them this one: up to the entry behind it

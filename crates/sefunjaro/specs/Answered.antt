@@ -1,7 +1,7 @@
 -- What zones of every kind answer, by the total in force at each instant.
 use Rattle.std.specs.{Prelude.{◌≡◌, ℕ, ℤ, Bool, true, All, AllPairs, List, length, map, Option, option_map, IfSome, is_some}, List.{slice_get}}
 use Rattle.civil_base.specs.{Instants.{local_at}, Ranges.{is_in_years}, declared.offset_date_time.OffsetDateTime.{OffsetDateTime}}
-use Rattle.tz_zone.specs.InForce.{all_in_force, in_force, shown_of}
+use Rattle.tz_lookup.specs.InForce.{all_in_force, in_force, shown_of}
 use Rattle.zone_alarm.specs.{Rings.{ends_in_years, rings}, RingsOnce.{AreApart, RingsOnce}, Shown.{ring_shown}, declared.ring.Ring.{Ring}}
 use Rattle.sefunjaro.specs.{Asked.{reading_of, IsNamed}, Gaps.{IsSkippedBy}, Rooms.{filled}, declared.zone.InForce.{InForce}, declared.zone.Reading.{Reading}, declared.gap.Gap.{Gap}}
 

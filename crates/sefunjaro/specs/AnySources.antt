@@ -1,7 +1,7 @@
 -- Sources in any form, and why one isn't opened.
 use Rattle.std.specs.Prelude.{◌≡◌, ◌<◌, ◌≤◌, ℕ, List, None, Ok, Err, length}
 use Rattle.zone_plain.specs.Plain.{plain_of}
-use Rattle.zone_plain_base.specs.LineFaults.{at, bad_line, too_long}
+use Rattle.zone_plain_lines.specs.LineFaults.{at, bad_line, too_long}
 use Rattle.zone_source.specs.{Releases.{release_of}, Faults.{source_fault}, Zones.{values_of}, declared.error.SourceError.{SourceError}}
 use Rattle.zone_table.specs.Tables.{IsTableOf}
 use Rattle.sefunjaro.specs.{Faults.{IsFirstFault}, Sources.{table_in, release_in}, declared.any_source.AnySourceFault.{AnySourceFault}, declared.any_source.AnySourceFault.TheVariants.{TooLong, Line, PlainTooLong, Plain, NoMemory}}

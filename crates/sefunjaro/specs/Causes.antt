@@ -8,9 +8,8 @@ use Rattle.zone_outside.specs.Limit.{text_limit}
 use Rattle.zone_spans.specs.{Entries.{Entry}, declared.fault.SpanFault.{SpanFault}}
 use Rattle.zone_spans.specs.declared.span.FixedTimespanSet as spans
 use Rattle.zone_table.specs.declared.table.Table.{Table}
-use Rattle.tz_zone.specs.Compiles.{IsZoneFault}
-use Rattle.tz_zone.specs.declared.compile.ZoneFault.TheVariants as zone
-use Rattle.tz_lookup.specs.Databases.{names_of, first_refused, zone_refusal, IsDatabaseFault}
+use Rattle.tz_lookup.specs.{Compiles.{IsZoneFault}, Databases.{names_of, first_refused, zone_refusal, IsDatabaseFault}}
+use Rattle.tz_lookup.specs.declared.compile.ZoneFault.TheVariants as zone
 use Rattle.tz_lookup.specs.declared.database.DatabaseFault.TheVariants as database
 use Rattle.zone_tree.specs.{Told.{IsFirst}, Trees.{Refused}}
 use Rattle.zone_tree.specs.declared.refusal.TreeFault.TheVariants as tree

@@ -1,6 +1,6 @@
 -- How the changes of a set are listed one by one, and how one is searched for by its second.
 use Rattle.std.specs.{Prelude.{◌≡◌, ℕ, ℤ, ◌+◌, ◌<◌, ◌≤◌, ◌≤ℤ◌, ◌<ℤ◌, List, ◌∷◌, length, drop, Option, Some, None}, List.{slice_get}}
-use Rattle.tz_zone.specs.Spans.{Shift, shift_at}
+use Rattle.tz_lookup.specs.Spans.{Shift, shift_at}
 use Rattle.sefunjaro.specs.{Changes.{settled_changes}, Rooms.{filled_at}, declared.changes.Change.{Change}}
 
 -- the change at a place is found, and is settled_changes; or it isn't, and what is settled_changes is settled_changes behind it

@@ -1,7 +1,7 @@
 -- The changes of a zone, and the saving in force.
 use Rattle.std.specs.{Prelude.{ℤ, Bool, ◌&&◌, not, List, [], ◌∷◌, length, map, filter, Option, int_le, int_lt, if◌then◌else◌}, List.{slice_get}, Ordering.{int_eq}}
 use Rattle.zone_spans.specs.{Collapse.{is_same_span}, Entries.{Entry, total}, declared.span.FixedTimespan.{FixedTimespan}}
-use Rattle.tz_zone.specs.declared.set.FixedTimespanSet.{FixedTimespanSet}
+use Rattle.tz_lookup.specs.declared.set.FixedTimespanSet.{FixedTimespanSet}
 use Rattle.sefunjaro.specs.declared.changes.Change.{Change}
 
 -- what the last of some entries puts in force, or what is in force before them

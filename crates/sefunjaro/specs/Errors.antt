@@ -6,12 +6,11 @@ use Rattle.sefunjaro.specs.declared.any_source.AnySourceFault.TheVariants as any
 use Rattle.sefunjaro.specs.declared.file.FileFault.TheVariants as opened_file
 use Rattle.sefunjaro.specs.declared.file.PosixFault.TheVariants as posix
 use Rattle.sefunjaro.specs.declared.source.OpenFault.TheVariants as opened
-use Rattle.tz_lookup.specs.declared.database.DatabaseFault.{DatabaseFault}
+use Rattle.tz_lookup.specs.{declared.database.DatabaseFault.{DatabaseFault}, declared.compile.ZoneFault.{ZoneFault}}
 use Rattle.tz_lookup.specs.declared.database.DatabaseFault.TheVariants as database
 use Rattle.tz_tzif.specs.declared.fault.TzifFault.{TzifFault}
 use Rattle.tz_tzif.specs.declared.fault.TzifFault.TheVariants as file_zone
-use Rattle.tz_zone.specs.declared.compile.ZoneFault.{ZoneFault}
-use Rattle.tz_zone.specs.declared.compile.ZoneFault.TheVariants as zone
+use Rattle.tz_lookup.specs.declared.compile.ZoneFault.TheVariants as zone
 use Rattle.zone_alarm.specs.declared.ring.AlarmFault.{AlarmFault}
 use Rattle.zone_alarm.specs.declared.ring.AlarmFault.TheVariants as alarm
 use Rattle.zone_list.specs.declared.listing.ListFault.{ListFault}

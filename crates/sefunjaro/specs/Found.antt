@@ -1,7 +1,7 @@
 -- One instant of each of some local times, by rules for those that clocks show more than once or never.
 use Rattle.std.specs.Prelude.{◌≡◌, ◌<◌, ◌≤◌, ℕ, ℤ, All, List, [], ◌∷◌, length, map, min, slice_index_or, Result, Ok, Err}
 use Rattle.civil_base.specs.Instants.{instant_at, seconds_of}
-use Rattle.tz_zone.specs.InForce.{all_in_force}
+use Rattle.tz_lookup.specs.InForce.{all_in_force}
 use Rattle.sefunjaro.specs.{Asked.{reading_of}, Clocks.{clock_shown, IsClock}, Gaps.{IsSkippedBy}, declared.clock.Clock.{Clock}, declared.found.FoldRule.{FoldRule}, declared.found.FoldRule.TheVariants.{First, Second}, declared.found.Found.{Found}}
 use Rattle.sefunjaro.specs.declared.{found.GapRule.{GapRule}, found.GapRule.TheVariants.{Before, After, None}, gap.Gap.{Gap}, zone.Reading.{Reading}}
 

@@ -1,9 +1,9 @@
 -- What replies see of a zone that is kept open.
 use Rattle.std.specs.Prelude.{ℤ, List, map, filter, int_le}
-use Rattle.zone_replies.specs.Views.{InForce, ZoneView}
+use Rattle.zone_texts.specs.Views.{InForce, ZoneView}
 use Rattle.zone_spans.specs.{Entries.{total}, Schedules.{instants}, declared.span.FixedTimespan.{FixedTimespan}}
 use Rattle.tz_ever.specs.{Recurrences.{zone_total}, Unrolled.{told}, declared.recurrence.Recurrence.{Recurrence}}
-use Rattle.tz_zone.specs.declared.set.FixedTimespanSet.{FixedTimespanSet}
+use Rattle.tz_lookup.specs.declared.set.FixedTimespanSet.{FixedTimespanSet}
 use Rattle.sefunjaro.specs.{Changes.{last_span, window}, Zones.{last_year}, declared.changes.Change.{Change}}
 
 abbrev pub force_of : FixedTimespan → InForce

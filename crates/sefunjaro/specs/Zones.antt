@@ -5,8 +5,7 @@ use Rattle.zone_spans.specs.declared.span.FixedTimespanSet as spans
 use Rattle.zone_table.specs.declared.table.Table.{Table}
 use Rattle.tz_ever.specs.{InForce.{span_at}, Opens.{DoesNotGoOn, IsFoundForEver, IsTooFarLater}, Recurrences.{ZoneGives, zone_span, zone_total}, Unrolled.{told}, ZoneShown.{recurrence_of, zone_set_of}, declared.zone_set.ZoneSet.{ZoneSet}}
 use Rattle.tz_ever.specs.declared.{recurrence.Recurrence.{Recurrence}, recurrence.Recurrence.TheVariants.{Never, Later, Always}}
-use Rattle.tz_zone.specs.{Compiles.{IsCompiledAs, spans_of}, Sets.{schedule_of}, declared.set.FixedTimespanSet.{FixedTimespanSet}}
-use Rattle.tz_lookup.specs.{CompactShown.{seen}, declared.compact_set.CompactSet.{CompactSet}}
+use Rattle.tz_lookup.specs.{Compiles.{IsCompiledAs, spans_of}, Sets.{schedule_of}, declared.set.FixedTimespanSet.{FixedTimespanSet}, CompactShown.{seen}, declared.compact_set.CompactSet.{CompactSet}}
 use Rattle.sefunjaro.specs.declared.zone.OpenZone.{OpenZone}
 
 -- the set of all its changes that are kept, and whether they come again

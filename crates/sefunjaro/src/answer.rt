@@ -2,7 +2,7 @@
 ghost use Rattle.std.specs.Prelude.{◌≡◌, ◌<◌, ◌≤◌, ◌+ℤ◌, ◌≤ℤ◌, ◌<ℤ◌, ℤ, false, length, pos, unsigned_abs, IfSome};
 ghost use Rattle.civil_base.specs.{DateTimes.{instant}, Instants.{seconds_of}};
 ghost use Rattle.tz_tzif.specs.{InForce.{kind_in, told_total_at}, Zones.{value_of, says_of}};
-ghost use Rattle.tz_zone.specs.Sets.{schedule_of, span_in, IsAccepted};
+ghost use Rattle.tz_lookup.specs.Sets.{schedule_of, span_in, IsAccepted};
 ghost use Rattle.sefunjaro.specs.{Answers.{end_second, up_to_end, IsAnswered, IsHeldOn}, AnswerSteps.{IsAround, IsMadeOf, IsToldBySpan}, Files.{given_at}};
 
 use crate::changes::span_in_force_at;
@@ -12,9 +12,8 @@ use crate::room::fill;
 use crate::shown::{clock_of, local_of};
 use crate::zone::in_force;
 use civil_base::OffsetDateTime;
-use tz_lookup::{OffsetDateTimeExt, SpanTable, span_begin, span_end};
+use tz_lookup::{OffsetDateTimeExt, SpanTable, offset_of, span_begin, span_end};
 use tz_tzif::TzifTz;
-use tz_zone::offset_of;
 
 /// 10502-01-01 00:00:00 UTC: up to then the changes of a zone that goes on for ever are listed.
 const END: i64 = 269_243_913_600;

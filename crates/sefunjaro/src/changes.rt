@@ -1,14 +1,13 @@
 //! The changes of a zone, and the saving in force.
 ghost use Rattle.std.specs.{Prelude.{◌≡◌, ◌+◌, ◌<◌, int_lt, length, map, Some}, List.{slice_get}};
-ghost use Rattle.tz_zone.specs.{Sets.{schedule_of, shifts_of, IsAccepted}, Spans.{shift_at, IsCut}};
+ghost use Rattle.tz_lookup.specs.{Sets.{schedule_of, shifts_of, IsAccepted}, Spans.{shift_at, IsCut}};
 ghost use Rattle.zone_spans.specs.Collapse.{is_same_span};
 ghost use Rattle.sefunjaro.specs.{Changes.{change_of, next_after, saving_at, span_before, window}, ChangeSteps.{AreParted, HasPut, IsChangeAt}, Rooms.{filled}};
 
 use crate::room::put;
 use std::marker::Brand;
 use std::sync::ledger::{Blank, Ledger};
-use tz_lookup::{FixedTimespan, SpanTable, Steps};
-use tz_zone::{offset_of, span_between};
+use tz_lookup::{FixedTimespan, SpanTable, Steps, offset_of, span_between};
 
 /// A change: what is in force from a second on.
 #[derive(Clone, Copy, Debug, PartialEq, Eq)]

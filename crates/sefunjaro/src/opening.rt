@@ -2,8 +2,7 @@
 ghost use Rattle.std.specs.Prelude.{◌≡◌, ◌≤◌, None, IfErr, IfOk, OnOk, length, map as each};
 ghost use Rattle.zone_source.specs.{Faults.{source_fault}, Zones.{values_of}};
 ghost use Rattle.zone_table.specs.{BoundedTables.{IsBoundedTable}, Tables.{IsTableOf}};
-ghost use Rattle.tz_lookup.specs.{CompactShown.{seen}, Compiles.{compiled_in, IsCompiledAs}, Databases.{names_of, found_in, found_as}};
-ghost use Rattle.tz_zone.specs.Sets.{schedule_of, IsAccepted};
+ghost use Rattle.tz_lookup.specs.{CompactShown.{seen}, Compiles.{compiled_in, IsCompiledAs}, Databases.{names_of, found_in, found_as}, Sets.{schedule_of, IsAccepted}};
 ghost use Rattle.sefunjaro.specs.{Causes.{IsSourceCause, IsZoneCause, IsDatabaseCause}, declared.error.Error.TheVariants.{NoMemory}};
 
 use crate::error::Error;

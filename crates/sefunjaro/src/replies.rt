@@ -1,7 +1,7 @@
 //! An open zone as replies ask it.
 ghost use Rattle.std.specs.Prelude.{◌≡◌, length, map, IfOk};
-ghost use Rattle.tz_zone.specs.{InForce.{all_in_force, shown_of}, Sets.{schedule_of, IsAccepted}};
-ghost use Rattle.zone_replies.specs.Forces.{force_shown};
+ghost use Rattle.tz_lookup.specs.{InForce.{all_in_force, shown_of}, Sets.{schedule_of, IsAccepted}};
+ghost use Rattle.zone_texts.specs.Forces.{force_shown};
 ghost use Rattle.sefunjaro.specs.{Changes.{span_before, window}, Replies.{differing, force_of, span_on}, Zones.{spans_in}};
 
 use crate::changes::{Change, entries_before, span_in_force_at};
@@ -9,9 +9,8 @@ use crate::zone::OpenZone;
 use civil_base::{OffsetDateTime, PlainDateTime, UtcOffset};
 use std::alloc::{AllocError, Global};
 use tz_ever::{ZoneTable, ZoneTz};
-use tz_lookup::{AllInstants, FixedTimespan, InstantsOf, SpanTable};
-use tz_zone::offset_of;
-use zone_replies::{Force, ReplyZone};
+use tz_lookup::{AllInstants, FixedTimespan, InstantsOf, SpanTable, offset_of};
+use zone_texts::{Force, ReplyZone};
 
 /// The offset in force at a second.
 fn offset_on<S: SpanTable>(set: &S, second: i64) -> UtcOffset

@@ -2,8 +2,7 @@
 ghost use Rattle.std.{specs.Prelude.{◌≡◌, IfErr, IfOk, IfSome}, proofs.Props.{props}};
 ghost use Rattle.sefunjaro.specs.{Zones.{GoesOnAs}, Releases.{if_some, release_text}};
 ghost use Rattle.tz_ever.specs.{Opens.{IsZoneToday}, ZoneShown.{recurrence_of}, declared.recurrence.Recurrence.TheVariants.{Later}};
-ghost use Rattle.tz_zone.specs.Compiles.{compiled_in, IsZoneFault};
-ghost use Rattle.tz_lookup.specs.Databases.{names_of};
+ghost use Rattle.tz_lookup.specs.{Compiles.{compiled_in, IsZoneFault}, Databases.{names_of}};
 ghost use Rattle.zone_table.specs.BoundedTables.{IsBoundedTable};
 ghost use Rattle.zone_source.specs.Releases.{release_of};
 
@@ -66,8 +65,7 @@ pub enum OpenFault {
 
 impl OpenSource {
     ghost use Rattle.std.specs.{Prelude.{◌≡◌, ◌≤◌, IfOk, IfErr, OnOk, None, length}, List.{slice_get}, Option.{option_copied}};
-    ghost use Rattle.tz_lookup.specs.Databases.{names_of};
-    ghost use Rattle.tz_zone.specs.{Compiles.{compiled_in, IsZoneFault}, Sets.{schedule_of, IsAccepted}};
+    ghost use Rattle.tz_lookup.specs.{Databases.{names_of}, Compiles.{compiled_in, IsZoneFault}, Sets.{schedule_of, IsAccepted}};
     ghost use Rattle.zone_table.specs.{BoundedTables.{IsBoundedTable}, Tables.{IsTableOf}};
     ghost use Rattle.zone_source.specs.{Faults.{source_fault}, Zones.{values_of}, Releases.{release_of}};
     ghost use Rattle.sefunjaro.specs.{Faults.{IsOpenFault, IsReadFault}, Sources.{table_in, release_in}, Zones.{ever_in, recurrence_in, recurrence_with, set_in, GoesOnAs, IsAsCompiled, IsOpened}, declared.source.OpenFault.TheVariants.{NoMemory}};

@@ -12,7 +12,7 @@ impl OpenZone {
     ghost use Rattle.zone_list.specs.{Ranges.{all_have_dates}, Rows.{rows}, Windows.{window}};
     ghost use Rattle.sefunjaro.specs.{Causes.{IsListCause}, Zones.{set_in, spans_in}};
     ghost use Rattle.zone_spans.specs.Schedules.{total_at as set_total_at};
-    ghost use Rattle.tz_zone.specs.Sets.{schedule_of};
+    ghost use Rattle.tz_lookup.specs.Sets.{schedule_of};
     ghost use Rattle.zone_tail.specs.{Carried.{CarriesOn}, Tails.{IsFaultOf, IsTail}};
     ghost use Rattle.zone_tzif_core.specs.{Denotes.{Denotes}, Totals.{file_total_at}, Tzif.{IsTzif}, Zones.{ZoneValue}};
     ghost use Rattle.zone_tzif.specs.Files.{consistent_zone, IsCarriedOn, MakesZone};

@@ -2,10 +2,9 @@
 ghost use Rattle.std.specs.{Prelude.{◌≡◌, ◌<◌, length, map, option_map, IfOk}, List.{slice_get}};
 ghost use Rattle.civil_base.specs.DateTimes.{instant};
 ghost use Rattle.tz_tzif.specs.{InForce.{told_total_at}, Zones.{value_of, says_of}};
-ghost use Rattle.tz_lookup.specs.{CompactShown.{seen}, InForce.{all_in_force, shown_of}};
+ghost use Rattle.tz_lookup.specs.{CompactShown.{seen}, InForce.{all_in_force, shown_of}, Sets.{schedule_of, IsAccepted}};
 ghost use Rattle.sefunjaro.specs.{Answered.{AreReadings}, Gaps.{IsSkippedBy}, Asked.{reading_of, IsNamed}, Rooms.{filled}};
 ghost use Rattle.tz_ever.specs.{Recurrences.{zone_total}, ZoneShown.{recurrence_of, zone_set_of}, declared.recurrence.Recurrence.TheVariants.{Always, Later, Never}};
-ghost use Rattle.tz_zone.specs.Sets.{schedule_of, IsAccepted};
 
 use crate::answer::{Answer, answer_at};
 use crate::changes::{Change, changes, next_change, saving_at};
@@ -304,10 +303,9 @@ impl OpenZone {
     ghost use Rattle.std.specs.{Prelude.{◌≡◌, ◌≤ℤ◌, ◌<ℤ◌, ℤ, true, IfOk, IfSome, is_some, length, map, option_map}, List.{slice_get}};
     ghost use Rattle.civil_base.specs.{DateTimes.{instant}, Instants.{local_at}, Ranges.{is_in_years}, Instants.{seconds_of}};
     ghost use Rattle.tz_ever.specs.{ZoneShown.{recurrence_of}, declared.recurrence.Recurrence.TheVariants.{Later}};
-    ghost use Rattle.tz_zone.specs.{InForce.{all_in_force, in_force as force_at, shown_of}, Sets.{schedule_of, IsAccepted}};
+    ghost use Rattle.tz_lookup.specs.{InForce.{all_in_force, in_force as force_at, shown_of}, Sets.{schedule_of, IsAccepted}, CompactShown.{seen}, CompactZones.{compact_of}};
     ghost use Rattle.sefunjaro.specs.{Answers.{IsAnswered, IsBetween}, Asked.{reading_of, IsNamed}, Changes.{next_after, saving_at as saving_of, window}, Found.{AreToldOf}, Gaps.{IsSkippedBy}, Offsets.{offsets_of, AreInYears}, Rooms.{filled}};
     ghost use Rattle.sefunjaro.specs.{Shown.{AreClocks, AreTexts}, Zones.{ever_in, given_in, last_year, recurrence_in, recurrence_with, set_in, spans_in, total_in}};
-    ghost use Rattle.tz_lookup.specs.{CompactShown.{seen}, CompactZones.{compact_of}};
 
     /// A set that can be looked up, kept compactly, or what goes on for ever with that set beside it.
     pub(crate) fn of_set(

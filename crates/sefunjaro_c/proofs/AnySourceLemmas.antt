@@ -1,13 +1,12 @@
 -- What is refused of a source in any form, and what is opened.
 use Rattle.std.{proofs.Common.{◌≡◌, ◌≤◌, ℕ, cond, List, length, inl, inr, refl, ap, ◌∙◌, arith}, specs.Prelude.{Option, Some, None, Result, Ok, Err, option_map}, proofs.lemmas.Bool.{lt-ltb, le-ltb}}
-use Rattle.zone_plain_base.specs.LineFaults.{Refusal, at, bad_line}
-use Rattle.zone_plain_base.specs.LineFaults as refused
+use Rattle.zone_plain_lines.specs.LineFaults.{Refusal, at, bad_line}
+use Rattle.zone_plain_lines.specs.LineFaults as refused
 use Rattle.zone_plain.specs.Plain.{plain_of}
 use Rattle.zone_source.specs.{Releases.{release_of}, Faults.{SourceFault, source_fault}, Told.{told_by_source}}
 use Rattle.sefunjaro.specs.{AnySources.{IsAnyFault, IsAnySource}, Sources.{release_in}, declared.any_source.AnySourceFault.{AnySourceFault}, declared.source.OpenSource.{OpenSource}}
 use Rattle.sefunjaro.specs.declared.any_source.AnySourceFault.TheVariants as opening
-use Rattle.sefunjaro_handles.specs.Statuses.{too_long}
-use Rattle.sefunjaro_c.{specs.AnySources.{any_due, any_told, form_due, IsAnySourceOf}, specs.Faults.{fault_told, plain, told_or_memory, IsRefused}, proofs.FaultLemmas.{told_positive}}
+use Rattle.sefunjaro_c.{specs.{Statuses.{too_long}, AnySources.{any_due, any_told, form_due, IsAnySourceOf}, Faults.{fault_told, plain, told_or_memory, IsRefused}}, proofs.FaultLemmas.{told_positive}}
 
 -- of a text that isn't too long what its plain form is due
 form_is : (text : List ℕ) (found : Result (List ℕ) Refusal) → length text ≤ 16777216 → plain_of text ≡ found → any_due text ≡ form_due found

@@ -1,8 +1,7 @@
 -- What is held, and what may be asked.
 use Rattle.std.{proofs.Common.{◌≡◌, ℕ, Bool, true, refl, sym, ◌∙◌, subst}, specs.Prelude.{Option, Some, None, MatchOption, IsSomeAnd}}
 use Rattle.sefunjaro.specs.declared.zone.AnyZone.{AnyZone}
-use Rattle.sefunjaro_handles.specs.{Held.{OfZone, OnZone}, declared.opened.Opened.{Opened}}
-use Rattle.sefunjaro_c.specs.Answers.{Where, Within}
+use Rattle.sefunjaro_c.specs.{Held.{OfZone, OnZone}, declared.opened.Opened.{Opened}, Answers.{Where, Within}}
 
 -- what holds of the value that is read holds of what the handle holds
 pub handed : {B : Type 0} (b : B) (value : B → Opened) (held : Option Opened) (now : Opened) (status : ℕ) (kept : Type 0) (P : AnyZone → Type 0)

@@ -3,13 +3,11 @@ use Rattle.std.{proofs.Common.{◌≡◌, ◌<◌, ◌≤◌, ℕ, true, false, 
 use Rattle.zone_source.specs.{Faults.{SourceFault, source_fault}, Told.{told_by_source}}
 use Rattle.zone_source.specs.Faults as source
 use Rattle.zone_table.specs.declared.table.Table.{Table}
-use Rattle.tz_zone.specs.{Compiles.{compiled_in, IsZoneFault}, declared.compile.ZoneFault.{ZoneFault}}
-use Rattle.tz_zone.specs.declared.compile.ZoneFault.TheVariants as zone
-use Rattle.tz_lookup.specs.Databases.{refusal_of, zone_refusal}
+use Rattle.tz_lookup.specs.{Compiles.{compiled_in, IsZoneFault}, declared.compile.ZoneFault.{ZoneFault}, Databases.{refusal_of, zone_refusal}}
+use Rattle.tz_lookup.specs.declared.compile.ZoneFault.TheVariants as zone
 use Rattle.sefunjaro.specs.{Faults.{IsOpenFault}, declared.source.OpenFault.{OpenFault}, declared.source.OpenSource.{OpenSource}}
 use Rattle.sefunjaro.specs.declared.source.OpenFault.TheVariants as opening
-use Rattle.sefunjaro_handles.specs.{Held.{IsSource}, Statuses.{not_text, too_long}, declared.opened.Opened.{Opened}, declared.opened.Opened.TheVariants.{Source, Zone}}
-use Rattle.sefunjaro_c.specs.Faults.{fault_told, told_or_memory, opening_told, zone_told, plain, source_due, zone_due, IsRefused}
+use Rattle.sefunjaro_c.specs.{Held.{IsSource}, Statuses.{not_text, too_long}, declared.opened.Opened.{Opened}, declared.opened.Opened.TheVariants.{Source, Zone}, Faults.{fault_told, told_or_memory, opening_told, zone_told, plain, source_due, zone_due, IsRefused}}
 
 pub told_positive : (fault : SourceFault) → 0 < (fault_told fault).status
 told_positive (source.not_text n) = omega arith

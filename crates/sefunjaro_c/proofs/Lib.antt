@@ -1,3 +1,5 @@
+pub mod Addresses
+pub mod Loans
 mod AnySourceLemmas
 mod AskedLemmas
 mod FaultLemmas

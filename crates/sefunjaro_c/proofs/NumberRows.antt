@@ -1,7 +1,7 @@
 -- What calls tell, beside the names of the header: each number is the one that the table has.
 use Rattle.std.proofs.Common.{◌≡◌, refl, ℕ, List, [], ◌∷◌, codes, map, pos, Some}
-use Rattle.sefunjaro_handles.specs.Statuses as status
-use Rattle.zone_values.specs.declared.fault.FaultKind.TheVariants as line
+use Rattle.sefunjaro_c.specs.Statuses as status
+use Rattle.zone_table.specs.declared.fault.FaultKind.TheVariants as line
 use Rattle.sefunjaro.specs.Found.{by_offset, kind_of}
 use Rattle.sefunjaro.specs.declared.file.FileFault.TheVariants as file
 use Rattle.sefunjaro.specs.declared.found.FoldRule.TheVariants as fold
@@ -12,8 +12,7 @@ use Rattle.zone_spans.specs.declared.fault.SpanFault.TheVariants as span
 use Rattle.zone_tail.specs.declared.outcome.TailFault.TheVariants as tail
 use Rattle.zone_tzif.specs.declared.outcome.EverTailFault.TheVariants as ever
 use Rattle.zone_tzif.specs.declared.file.FileFault.TheVariants as written
-use Rattle.sefunjaro_c.specs.{AnySources.{line_told, long_form}, Faults.{join_number, kind_number, schedule_number}, Files.{file_told}, ForEver.{ever_file_told, ever_tail_told, rules_end}, Found.{fold_of, gap_of}}
-use Rattle.sefunjaro_c.specs.{Numbers.{folds, gap_rules, kinds, statuses, line_causes, join_causes, schedule_causes, plain_causes, ever_causes, file_causes, tail_causes, tzif_causes}, Whole.{tail_told, tzif_told}}
+use Rattle.sefunjaro_c.specs.{AnySources.{line_told, long_form}, Faults.{join_number, kind_number, schedule_number}, Files.{file_told}, ForEver.{ever_file_told, ever_tail_told, rules_end}, Found.{fold_of, gap_of}, Numbers.{folds, gap_rules, kinds, statuses, line_causes, join_causes, schedule_causes, plain_causes, ever_causes, file_causes, tail_causes, tzif_causes}, Whole.{tail_told, tzif_told}}
 
 status_numbers : (codes "DONE", status.done) ∷ (codes "NOT_OPEN", status.not_open) ∷ (codes "NO_MEMORY", status.out_of_memory) ∷ (codes "TOO_LONG", status.too_long)
     ∷ (codes "NOT_TEXT", status.not_text) ∷ (codes "BAD_LINE", status.bad_line) ∷ (codes "BAD_JOIN", status.bad_join) ∷ (codes "UNKNOWN_ZONE", status.unknown_zone)

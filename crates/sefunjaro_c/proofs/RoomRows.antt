@@ -1,7 +1,7 @@
 -- Worked examples: what is told where there is too little room, a nanosecond too much, and the version. A name goes as far as it fits, and
 -- its whole length is told, not the room's; of a list it is how many there are, whatever the room.
 use Rattle.std.{proofs.Common.{◌≡◌, ℕ, ℤ, pos, List, [], ◌∷◌, length, refl, ◌∙◌, arith}, specs.Prelude.{Some, codes}}
-use Rattle.tz_zone.specs.InForce.{all_in_force}
+use Rattle.tz_lookup.specs.InForce.{all_in_force}
 use Rattle.sefunjaro.specs.{Answered.{AreReadings}, Changes.{window}, Clocks.{IsClock}, Rooms.{filled}, Zones.{spans_in}, declared.zone.Reading.{Reading}, declared.changes.Change.{Change}, declared.clock.Clock.{Clock}, declared.gap.Gap.{Gap}}
 use Rattle.sefunjaro.specs.declared.zone.OpenZone.{OpenZone}
 use Rattle.sefunjaro_c.specs.{Changes.{AreChanges}, Names.{IsNameAt}, Version.{rule_years, version}}

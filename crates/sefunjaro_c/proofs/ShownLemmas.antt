@@ -1,10 +1,9 @@
 -- What is seen of zones of any kind, and instants at the offset in force.
 use Rattle.std.{proofs.Common.{◌≡◌, ℕ, Bool, false, List, ℤ, refl, sym, ap, subst, arith}, specs.Prelude.{Option, Some, None}, proofs.lemmas.Int.{ints}}
 use Rattle.civil_base.specs.{DateTimes.{instant, local_of, offset_of}, Instants.{instant_at, local_at}, declared.offset_date_time.OffsetDateTime.{OffsetDateTime}, Ranges.{is_in_years}}
-use Rattle.tz_zone.specs.InForce.{in_force, shown_of}
+use Rattle.tz_lookup.specs.InForce.{in_force, shown_of}
 use Rattle.sefunjaro.specs.{Answered.{IsShown}, Answers.{IsAnswer}, Any.{Seen}, declared.answer.Answer.{Answer}, declared.zone.AnyZone.{AnyZone}, declared.zone.AnyZone.TheVariants.{Source, File}}
-use Rattle.sefunjaro_handles.specs.{Held.{OfZone}, declared.opened.Opened.{Opened}}
-use Rattle.sefunjaro_c.{specs.Answers.{is_shown, IsShownAs, Where}, specs.Lists.{OfPlace}, proofs.AskedLemmas.{of_zone}}
+use Rattle.sefunjaro_c.{specs.{Held.{OfZone}, declared.opened.Opened.{Opened}, Answers.{is_shown, IsShownAs, Where}, Lists.{OfPlace}}, proofs.AskedLemmas.{of_zone}}
 
 -- what follows from what is seen, whatever zone it is
 pub seen_map : (zone : AnyZone) (P Q : (ℤ → ℤ) → (ℤ → List ℕ → Bool → Type 0) → Type 0)

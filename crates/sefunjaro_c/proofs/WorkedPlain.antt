@@ -1,8 +1,8 @@
 -- Worked examples: faults of sources in any form as they are told. The numbers are those of the header.
 use Rattle.std.{proofs.Common.{◌≡◌, refl}, specs.Prelude.{Some, Err}}
 use Rattle.zone_plain_lines.specs.declared.cause.PlainCause.TheVariants as cause
-use Rattle.zone_plain_base.specs.LineFaults.{at, bad_line}
-use Rattle.zone_plain_base.specs.LineFaults as refused
+use Rattle.zone_plain_lines.specs.LineFaults.{at, bad_line}
+use Rattle.zone_plain_lines.specs.LineFaults as refused
 use Rattle.sefunjaro.specs.declared.any_source.AnySourceFault.TheVariants as opening
 use Rattle.sefunjaro_c.specs.AnySources.{any_told, form_due}
 

@@ -3,11 +3,10 @@ use Rattle.std.{proofs.Common.{◌≡◌, ℕ, suc, true, false, refl, [], ◌�
 use Rattle.zone_source.specs.Faults as source
 use Rattle.zone_source.specs.declared.error.BuildKind.TheVariants as join
 use Rattle.zone_spans.specs.declared.fault.SpanFault.TheVariants as span
-use Rattle.tz_zone.specs.declared.compile.ZoneFault.TheVariants as zone
+use Rattle.tz_lookup.specs.declared.compile.ZoneFault.TheVariants as zone
 use Rattle.sefunjaro.specs.declared.file.FileFault.TheVariants as file
 use Rattle.sefunjaro.specs.declared.file.PosixFault.TheVariants as posix
-use Rattle.sefunjaro_handles.specs.Statuses.{IfRefused}
-use Rattle.sefunjaro_c.specs.{Answers.{Where}, Files.{file_told, posix_told}, Faults.{fault_told, plain, told_or_memory, zone_told}}
+use Rattle.sefunjaro_c.specs.{Statuses.{IfRefused}, Answers.{Where}, Files.{file_told, posix_told}, Faults.{fault_told, plain, told_or_memory, zone_told}}
 
 -- a line that isn't text, one that may not follow those before it, and want of memory
 third_line_no_text : fault_told (source.not_text 3) ≡ record { status = 4; cause = 0; line = 3 }

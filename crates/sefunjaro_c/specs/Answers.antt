@@ -2,7 +2,7 @@
 use Rattle.std.specs.Prelude.{◌≡◌, ◌⊎◌, ℕ, ℤ, Bool, true, false, List, length}
 use Rattle.civil_base.specs.{DateTimes.{instant, local_of, offset_of}, declared.offset_date_time.OffsetDateTime.{OffsetDateTime}, Instants.{local_at}, Layout.{day_part, time_part, zoned_text}, Ranges.{is_in_years}}
 use Rattle.sefunjaro.specs.{Clocks.{clock_at, clock_shown, IsClock}, Rooms.{filled}, declared.clock.Clock.{Clock}}
-use Rattle.sefunjaro_handles.specs.Statuses.{done, out_of_range}
+use Rattle.sefunjaro_c.specs.Statuses.{done, out_of_range}
 
 -- where the question may be asked it is answered; else it is out of range, and what is kept is kept
 abbrev pub Where : Bool → ℕ → Type 0 → Type 0 → Type 0

@@ -1,16 +1,14 @@
 -- Sources in any form, and why one isn't opened, in numbers.
 use Rattle.std.specs.Prelude.{◌≡◌, ℕ, List, length, nat_lt, Option, Some, None, Result, Ok, Err, option_map, if◌then◌else◌}
-use Rattle.zone_plain_lines.specs.declared.cause.PlainCause.{PlainCause}
+use Rattle.zone_plain_lines.specs.{declared.cause.PlainCause.{PlainCause}, LineFaults.{Refusal, bad_line}}
 use Rattle.zone_plain_lines.specs.declared.cause.PlainCause.TheVariants as cause
-use Rattle.zone_plain_base.specs.LineFaults.{Refusal, bad_line}
-use Rattle.zone_plain_base.specs.LineFaults as refused
+use Rattle.zone_plain_lines.specs.LineFaults as refused
 use Rattle.zone_plain.specs.Plain.{plain_of}
 use Rattle.zone_source.specs.{Releases.{release_of}, Faults.{source_fault}, Zones.{values_of}}
 use Rattle.zone_table.specs.Tables.{IsTableOf}
 use Rattle.sefunjaro.specs.{Sources.{table_in, release_in}, declared.any_source.AnySourceFault.{AnySourceFault}, declared.source.OpenSource.{OpenSource}}
 use Rattle.sefunjaro.specs.declared.any_source.AnySourceFault.TheVariants as opening
-use Rattle.sefunjaro_handles.specs.Statuses.{no_plain_form, out_of_memory, too_long}
-use Rattle.sefunjaro_c.specs.{Faults.{error_told, fault_told, plain}, declared.fault.Fault.{Fault}}
+use Rattle.sefunjaro_c.specs.{Statuses.{no_plain_form, out_of_memory, too_long}, Faults.{error_told, fault_told, plain}, declared.fault.Fault.{Fault}}
 
 -- the cause of a line that has no plain form
 abbrev pub plain_number : PlainCause → ℕ

@@ -2,7 +2,7 @@
 use Rattle.std.specs.Prelude.{◌≡◌, ◌⊎◌, ℕ, ℤ, List, Option, Some, None, length}
 use Rattle.sefunjaro.specs.{Answered.{first_of}, Any.{Seen}, Changes.{window}, Clocks.{clock_shown, IsClock}, Rooms.{filled}, Zones.{spans_in}, declared.zone.AnyZone.{AnyZone}, declared.zone.Reading.{Reading}, declared.changes.Change.{Change}}
 use Rattle.sefunjaro.specs.declared.{clock.Clock.{Clock}, zone.OpenZone.{OpenZone}}
-use Rattle.sefunjaro_handles.specs.Statuses.{done, none_there, out_of_range}
+use Rattle.sefunjaro_c.specs.Statuses.{done, none_there, out_of_range}
 
 -- what is found is told; there may be none
 abbrev pub IsFound : {A : Type 0} → Option A → ℕ → A → A → Type 0

@@ -1,19 +1,16 @@
 -- Why a source or a zone isn't opened, in numbers.
 use Rattle.std.specs.{Prelude.{◌≡◌, ◌+◌, ◌<◌, ◌⊎◌, ℕ, List, length, nat_lt, Option, Some, None, option_map, if◌then◌else◌}, Str.{is_utf8}}
 use denote.Enum.Declared.{tag_of as place_among}
-use Rattle.zone_values.specs.{contracts.fault.FaultKind.{the_type as kinds}, declared.fault.FaultKind.{FaultKind}}
+use Rattle.zone_table.specs.{contracts.fault.FaultKind.{the_type as kinds}, declared.fault.FaultKind.{FaultKind}, declared.table.Table.{Table}}
 use Rattle.zone_source.specs.{Faults.{SourceFault, source_fault}, Told.{told_by_source}, contracts.error.BuildKind.{the_type as joins}, declared.error.BuildKind.{BuildKind}, declared.error.SourceError.{SourceError}}
 use Rattle.zone_source.specs.Faults as source
 use Rattle.zone_spans.specs.{contracts.fault.SpanFault.{the_type as schedule_faults}, declared.fault.SpanFault.{SpanFault}}
 use Rattle.zone_spans.specs.declared.fault.SpanFault.TheVariants as span
-use Rattle.zone_table.specs.declared.table.Table.{Table}
-use Rattle.tz_zone.specs.declared.compile.ZoneFault.{ZoneFault}
-use Rattle.tz_zone.specs.declared.compile.ZoneFault.TheVariants as zone
-use Rattle.tz_lookup.specs.Databases.{zone_refusal}
+use Rattle.tz_lookup.specs.{declared.compile.ZoneFault.{ZoneFault}, Databases.{zone_refusal}}
+use Rattle.tz_lookup.specs.declared.compile.ZoneFault.TheVariants as zone
 use Rattle.sefunjaro.specs.declared.source.OpenFault.{OpenFault}
 use Rattle.sefunjaro.specs.declared.source.OpenFault.TheVariants as opening
-use Rattle.sefunjaro_handles.specs.Statuses.{bad_join, bad_line, no_schedule, not_text, offset_range, out_of_memory, too_long, unknown_zone}
-use Rattle.sefunjaro_c.specs.declared.fault.Fault.{Fault}
+use Rattle.sefunjaro_c.specs.{Statuses.{bad_join, bad_line, no_schedule, not_text, offset_range, out_of_memory, too_long, unknown_zone}, declared.fault.Fault.{Fault}}
 
 -- a status that says it all
 abbrev pub plain : ℕ → Fault

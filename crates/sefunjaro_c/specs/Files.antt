@@ -3,8 +3,7 @@ use Rattle.std.specs.{Prelude.{◌≡◌, ◌<◌, ◌⊎◌, ℕ, List, true, f
 use Rattle.sefunjaro.specs.{Files.{IsFileFault, IsPosixOf}, Posix.{IsPosixFault}, declared.file.FileFault.{FileFault}, declared.file.FileZone.{FileZone}, declared.file.PosixFault.{PosixFault}}
 use Rattle.sefunjaro.specs.declared.file.FileFault.TheVariants as file
 use Rattle.sefunjaro.specs.declared.file.PosixFault.TheVariants as posix
-use Rattle.sefunjaro_handles.specs.Statuses.{not_read, not_text, out_of_memory}
-use Rattle.sefunjaro_c.specs.{Faults.{plain}, declared.fault.Fault.{Fault}}
+use Rattle.sefunjaro_c.specs.{Statuses.{not_read, not_text, out_of_memory}, Faults.{plain}, declared.fault.Fault.{Fault}}
 
 -- why a file isn't opened, in numbers
 abbrev pub file_told : FileFault → Fault

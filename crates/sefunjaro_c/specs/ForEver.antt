@@ -9,8 +9,7 @@ use Rattle.zone_tzif.specs.declared.ever.EverFileFault.TheVariants as ever_fault
 use Rattle.zone_tzif.specs.declared.file.FileFault.TheVariants as file
 use Rattle.zone_tzif_core.specs.{Denotes.{Denotes}, Zones.{ZoneValue}}
 use Rattle.sefunjaro.specs.{PosixNames.{is_posix_string, IsSpelled}, Rooms.{filled}}
-use Rattle.sefunjaro_handles.specs.Statuses.{done, out_of_memory}
-use Rattle.sefunjaro_c.specs.{Faults.{plain}, Whole.{none_for}, declared.fault.Fault.{Fault}}
+use Rattle.sefunjaro_c.specs.{Statuses.{done, out_of_memory}, Faults.{plain}, Whole.{none_for}, declared.fault.Fault.{Fault}}
 
 -- the zone doesn't go on
 abbrev pub rules_end : Fault

@@ -2,7 +2,7 @@
 use Rattle.std.specs.Prelude.{◌≡◌, ◌⊎◌, ℕ, ℤ, List, Option, Some, None, ◌==◌, if◌then◌else◌}
 use Rattle.sefunjaro.specs.{Found.{AreFound, AreLocalTimes, IsFirstFaulty}, declared.clock.Clock.{Clock}, declared.found.FoldRule.{FoldRule}, declared.found.FoldRule.TheVariants.{First, Second}, declared.found.Found.{Found}, declared.found.GapRule.{GapRule}}
 use Rattle.sefunjaro.specs.declared.found.GapRule.TheVariants as gap_rule
-use Rattle.sefunjaro_handles.specs.Statuses.{done, out_of_range}
+use Rattle.sefunjaro_c.specs.Statuses.{done, out_of_range}
 
 -- the rules by their numbers
 abbrev pub fold_of : ℕ → Option FoldRule

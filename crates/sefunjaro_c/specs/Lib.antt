@@ -1,4 +1,6 @@
 -- Definitions: what public clauses say.
+pub mod Held
+pub mod Statuses
 pub mod Answers
 pub mod AnySources
 pub mod Changes
@@ -14,3 +16,7 @@ pub mod Read
 pub mod Times
 pub mod Version
 pub mod Whole
+-- Words of private clauses.
+pub mod Handles
+pub mod Heap
+pub mod Loans

@@ -1,7 +1,7 @@
 -- Lists of seconds that are asked at once.
 use Rattle.std.specs.Prelude.{◌≡◌, ℕ, ℤ, suc, List, [], ◌∷◌, Option, Some, None, option_map, if◌then◌else◌}
 use Rattle.civil_base.specs.{Instants.{nanos_of}, Ranges.{is_in_years}}
-use Rattle.sefunjaro_handles.specs.Statuses.{done, out_of_range}
+use Rattle.sefunjaro_c.specs.Statuses.{done, out_of_range}
 
 -- the place, from 0, of the first second outside the years -9999 to 9999 in UTC, if there is one
 unfoldable pub far_place : List ℤ → Option ℕ

@@ -1,6 +1,6 @@
 -- The names of a source, and its release.
 use Rattle.std.specs.Prelude.{◌≡◌, ℕ, List, Option, Some, None, length}
-use Rattle.sefunjaro_handles.specs.Statuses.{done, none_there}
+use Rattle.sefunjaro_c.specs.Statuses.{done, none_there}
 use Rattle.sefunjaro.specs.Rooms.{filled}
 
 -- a name, or a release, stands in the room, as far as it fits, and its length is told; there may be none

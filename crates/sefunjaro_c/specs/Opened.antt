@@ -2,10 +2,9 @@
 use Rattle.std.specs.Prelude.{◌≡◌, ℕ, List, None, IfSome}
 use Rattle.zone_table.specs.{Tables.{IsTableOf}, declared.table.Table.{Table}}
 use Rattle.zone_source.specs.{Releases.{release_of}, Zones.{values_of}}
-use Rattle.tz_zone.specs.{Compiles.{compiled_in}, Sets.{schedule_of, IsAccepted}}
+use Rattle.tz_lookup.specs.{Compiles.{compiled_in}, Sets.{schedule_of, IsAccepted}}
 use Rattle.sefunjaro.specs.{Sources.{table_in, release_in}, Zones.{ever_in, set_in, GoesOnAs, IsAsCompiled, IsOpened}, declared.source.OpenSource.{OpenSource}, declared.zone.OpenZone.{OpenZone}}
-use Rattle.sefunjaro_handles.specs.declared.view.View.{View}
-use Rattle.sefunjaro_c.specs.Faults.{source_due}
+use Rattle.sefunjaro_c.specs.{declared.view.View.{View}, Faults.{source_due}}
 
 -- the source is that of a text with no fault, with the release that the text names
 pub record IsSourceOf (text : List ℕ) (source : OpenSource) : Type 0 where

@@ -1,9 +1,8 @@
 -- What texts are read as.
 use Rattle.std.specs.{Prelude.{◌≡◌, ◌≢◌, ◌<◌, ◌⊎◌, ℕ, ℤ, List, Option, Some, None, if◌then◌else◌}, Str.{is_utf8}}
 use Rattle.civil_base.specs.{Instants.{local_at}, Layout.{day_part, time_part, zoned_text}, LocalTimes.{local_time_in}, Ranges.{IsInYears, IsOffset}, ReadAs.{IsReadAs}}
-use Rattle.sefunjaro_handles.specs.Statuses.{done, not_read}
+use Rattle.sefunjaro_c.specs.{Statuses.{done, not_read}, Times.{nanos_at}, declared.zones.Instant.{Instant}}
 use Rattle.sefunjaro.specs.{Clocks.{clock_at}, declared.clock.Clock.{Clock}}
-use Rattle.sefunjaro_c.specs.{Times.{nanos_at}, declared.zones.Instant.{Instant}}
 
 -- the local time that a text names, if it is UTF-8
 unfoldable pub local_in : List ℕ → Option ℤ

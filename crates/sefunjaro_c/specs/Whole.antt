@@ -7,10 +7,9 @@ use Rattle.zone_tzif_core.specs.declared.values.WriteFault.TheVariants as write
 use Rattle.zone_tzif.specs.{Files.{consistent_fault, consistent_file, IsCarriedOn}, declared.file.FileFault.{FileFault}}
 use Rattle.zone_tzif.specs.declared.file.FileFault.TheVariants as file
 use Rattle.sefunjaro.specs.{PosixNames.{has_posix_names}, Rooms.{filled}, Zones.{set_in}, declared.zone.OpenZone.{OpenZone}}
-use Rattle.tz_zone.specs.Sets.{schedule_of}
+use Rattle.tz_lookup.specs.Sets.{schedule_of}
 use Rattle.zone_spans.specs.Schedules.{total_at}
-use Rattle.sefunjaro_handles.specs.Statuses.{done, none_there, out_of_memory}
-use Rattle.sefunjaro_c.specs.{Faults.{plain, IsRefused}, declared.fault.Fault.{Fault}}
+use Rattle.sefunjaro_c.specs.{Statuses.{done, none_there, out_of_memory}, Faults.{plain, IsRefused}, declared.fault.Fault.{Fault}}
 
 -- there is none of what is asked for, for this cause
 abbrev pub none_for : ℕ → Fault

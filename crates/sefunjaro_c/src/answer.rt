@@ -2,14 +2,14 @@
 ghost use Rattle.std.specs.Prelude.{◌≡◌};
 ghost use Rattle.civil_base.specs.DateTimes.{instant};
 ghost use Rattle.sefunjaro.specs.{Answers.{IsAnswer, TellsSaving, TellsUntil}, Any.{Seen}};
-ghost use Rattle.sefunjaro_c.specs.{Answers.{is_shown, Where, Within}, Times.{is_instant, nanos_at}, Opened.{StaysLent}};
-ghost use Rattle.sefunjaro_handles.specs.{Held.{OfZone, OnZone}, Statuses.{done, IfRefused}};
+ghost use Rattle.sefunjaro_c.specs.{Answers.{is_shown, Where, Within}, Times.{is_instant, nanos_at}, Opened.{StaysLent}, Held.{OfZone, OnZone}, Statuses.{done, IfRefused}};
 
 use crate::fault::{DONE, NOT_OPEN, OUT_OF_RANGE};
+use crate::opened::Opened;
+use crate::view::View;
 use crate::zones::instant_of;
 use civil_base::OffsetDateTime;
 use sefunjaro::{Answer, AnyZone};
-use sefunjaro_handles::{Opened, View};
 
 /// All that a zone says of an instant, and how long it holds. The abbreviation goes into the room, as far as it fits.
 #[unsafe(no_mangle)]

@@ -1,11 +1,11 @@
 //! Sources in any form that `zic` reads.
 ghost use Rattle.std.specs.Prelude.{◌≡◌, IfErr, IfOk, IfSome, MatchOption, is_some, nat_eq};
-ghost use Rattle.sefunjaro_c.specs.{AnySources.{any_due, any_told, plain_number, IsAnySourceOf}, Faults.{plain, IsRefused}};
-ghost use Rattle.sefunjaro_handles.specs.{Held.{IsSource}, Statuses.{done}};
+ghost use Rattle.sefunjaro_c.specs.{AnySources.{any_due, any_told, plain_number, IsAnySourceOf}, Faults.{plain, IsRefused}, Held.{IsSource}, Statuses.{done}};
 
 use crate::fault::{DONE, Fault, NO_MEMORY, NO_PLAIN_FORM, TOO_LONG, plain_fault, source_fault};
+use crate::handle::Handle;
+use crate::opened::Opened;
 use sefunjaro::{AnySourceFault, OpenSource};
-use sefunjaro_handles::{Handle, Opened};
 use std::alloc::Global;
 use zone_plain_lines::PlainCause;
 

@@ -1,13 +1,13 @@
 //! The saving and the changes of a zone, the ring of a daily alarm, and the last year up to whose end a zone says what is in force.
 ghost use Rattle.std.specs.Prelude.{◌≡◌};
-ghost use Rattle.sefunjaro_c.specs.{Answers.{Where}, Changes.{AreChanges, IsFound, IsRing}, Times.{is_instant}, Opened.{StaysLent}};
-ghost use Rattle.sefunjaro_handles.specs.{Held.{OfKept, OfZone, OnZone}, Statuses.{IfRefused}};
+ghost use Rattle.sefunjaro_c.specs.{Answers.{Where}, Changes.{AreChanges, IsFound, IsRing}, Times.{is_instant}, Opened.{StaysLent}, Held.{OfKept, OfZone, OnZone}, Statuses.{IfRefused}};
 ghost use Rattle.sefunjaro.specs.{Changes.{next_after, saving_at}, Zones.{last_year, recurrence_in, spans_in}};
 
 use crate::fault::{DONE, NONE_THERE, NOT_KEPT, NOT_OPEN, OUT_OF_RANGE};
+use crate::opened::Opened;
+use crate::view::View;
 use crate::zones::instant_of;
 use sefunjaro::{AnyZone, Change, Clock, Reading};
-use sefunjaro_handles::{Opened, View};
 
 /// The saving that is in force at an instant, in seconds. A change lies on a whole second, so the nanosecond only has to be one.
 #[unsafe(no_mangle)]

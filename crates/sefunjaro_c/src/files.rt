@@ -1,12 +1,12 @@
 //! Zones that are opened from the bytes of a compiled file, or from a POSIX string.
 ghost use Rattle.std.specs.Prelude.{◌≡◌, IfErr, IfOk, IfSome, MatchOption, is_some, nat_eq};
-ghost use Rattle.sefunjaro_c.specs.{Faults.{plain}, Files.{file_told, posix_told, IsFileRefused, IsPosixRefused, IsTextOf}};
-ghost use Rattle.sefunjaro_handles.specs.{Held.{IsZone}, Statuses.{done}};
+ghost use Rattle.sefunjaro_c.specs.{Faults.{plain}, Files.{file_told, posix_told, IsFileRefused, IsPosixRefused, IsTextOf}, Held.{IsZone}, Statuses.{done}};
 ghost use Rattle.sefunjaro.specs.{Any.{IsOfFile}, Files.{IsFileOf}};
 
 use crate::fault::{DONE, Fault, NO_MEMORY, NOT_READ, NOT_TEXT, plain_fault};
+use crate::handle::Handle;
+use crate::opened::Opened;
 use sefunjaro::{AnyZone, FileFault, FileZone, PosixFault};
-use sefunjaro_handles::{Handle, Opened};
 use std::alloc::Global;
 use zone_source::text_of;
 

@@ -1,16 +1,16 @@
 //! A zone for ever as a whole: the string that carries it on, and its file.
 ghost use Rattle.std.specs.Prelude.{◌≡◌, Some};
 ghost use Rattle.sefunjaro.specs.Zones.{ever_in};
-ghost use Rattle.sefunjaro_c.specs.{Faults.{plain}, ForEver.{ever_file_told, ever_tail_told, ever_told, IsEverFileTold, IsEverTailTold}, Opened.{StaysLent}};
-ghost use Rattle.sefunjaro_handles.specs.{Held.{OfKept, OfZone, OnZone}, Statuses.{not_kept, not_open, IfRefused}};
+ghost use Rattle.sefunjaro_c.specs.{Faults.{plain}, ForEver.{ever_file_told, ever_tail_told, ever_told, IsEverFileTold, IsEverTailTold}, Opened.{StaysLent}, Held.{OfKept, OfZone, OnZone}, Statuses.{not_kept, not_open, IfRefused}};
 
 use crate::fault::{DONE, Fault, NO_MEMORY, NOT_KEPT, NOT_OPEN, plain_fault};
+use crate::opened::Opened;
+use crate::view::View;
 use crate::whole::none_for;
 use sefunjaro::{
     AnyZone, EverFileFault, EverTailFault, OpenZone, ZoneSet, fill, is_posix_string, tail_for_ever,
     tzif_for_ever,
 };
-use sefunjaro_handles::{Opened, View};
 use std::alloc::Global;
 use zone_tzif::FileFault;
 

@@ -1,12 +1,12 @@
 //! What a zone is asked of many seconds at once.
 ghost use Rattle.std.specs.Prelude.{◌≡◌, ◌<◌, length, pos, slice_index_or};
 ghost use Rattle.sefunjaro.specs.{Any.{Seen}, Offsets.{offsets_of}, Rooms.{filled}, Shown.{clocks_of, textless_place, texts_of, unshown_place}};
-ghost use Rattle.sefunjaro_c.specs.{Lists.{far_place, OfPlace}, Opened.{StaysLent}};
-ghost use Rattle.sefunjaro_handles.specs.{Held.{OfZone, OnZone}, Statuses.{IfRefused}};
+ghost use Rattle.sefunjaro_c.specs.{Lists.{far_place, OfPlace}, Opened.{StaysLent}, Held.{OfZone, OnZone}, Statuses.{IfRefused}};
 
 use crate::fault::{DONE, NOT_OPEN, OUT_OF_RANGE};
+use crate::opened::Opened;
+use crate::view::View;
 use sefunjaro::{Clock, is_in_years};
-use sefunjaro_handles::{Opened, View};
 
 /// The seconds east of UTC that are in force at each of some seconds of the years -9999 to 9999 in UTC, in their order, as far as they
 /// fit. Where a second lies outside them the place of the first such one is told, from 0.

@@ -1,15 +1,16 @@
 //! Sources, and the zones that are opened from them.
 ghost use Rattle.std.specs.{Prelude.{◌≡◌, ◌<◌, IfErr, IfOk, IfSome, MatchOption, None, is_some, length, nat_eq}, List.{slice_get}};
-ghost use Rattle.sefunjaro_c.specs.{Faults.{plain, source_due, zone_due, IsRefused}, Names.{IsNameAt}, Opened.{IsSourceOf, IsZoneOf, StaysLent}};
+ghost use Rattle.sefunjaro_c.specs.{Faults.{plain, source_due, zone_due, IsRefused}, Names.{IsNameAt}, Opened.{IsSourceOf, IsZoneOf, StaysLent}, Held.{OfSource, OnSource, IsSource, IsZone}, Statuses.{done, not_open, IfRefused}};
 ghost use Rattle.tz_lookup.specs.Databases.{names_of};
-ghost use Rattle.sefunjaro_handles.specs.{Held.{OfSource, OnSource, IsSource, IsZone}, Statuses.{done, not_open, IfRefused}};
 ghost use Rattle.sefunjaro.specs.{Any.{IsOfSource}, Sources.{release_in, table_in}};
 
 use crate::fault::{
     DONE, Fault, NO_MEMORY, NONE_THERE, NOT_OPEN, NOT_TEXT, opening_fault, plain_fault, zone_fault,
 };
+use crate::handle::Handle;
+use crate::opened::Opened;
+use crate::view::View;
 use sefunjaro::{AnyZone, OpenSource, fill};
-use sefunjaro_handles::{Handle, Opened, View};
 use std::alloc::Global;
 use zone_source::text_of;
 

@@ -1,11 +1,11 @@
 //! A zone as a whole: the string that carries it on, and its file.
 ghost use Rattle.std.specs.Prelude.{◌≡◌};
-ghost use Rattle.sefunjaro_c.specs.{Faults.{plain}, Whole.{tzif_told, none_for, tail_told, IsFileTold, IsTailTold}, Opened.{StaysLent}};
-ghost use Rattle.sefunjaro_handles.specs.{Held.{OfKept, OfZone, OnZone}, Statuses.{not_kept, not_open, IfRefused}};
+ghost use Rattle.sefunjaro_c.specs.{Faults.{plain}, Whole.{tzif_told, none_for, tail_told, IsFileTold, IsTailTold}, Opened.{StaysLent}, Held.{OfKept, OfZone, OnZone}, Statuses.{not_kept, not_open, IfRefused}};
 
 use crate::fault::{DONE, Fault, NO_MEMORY, NONE_THERE, NOT_KEPT, NOT_OPEN, plain_fault};
+use crate::opened::Opened;
+use crate::view::View;
 use sefunjaro::{AnyZone, OpenZone, fill, has_posix_names};
-use sefunjaro_handles::{Opened, View};
 use std::alloc::Global;
 use zone_tail::TailFault;
 use zone_tzif::FileFault;

@@ -1,14 +1,15 @@
 //! What a zone is asked: instants, local times and readings.
 ghost use Rattle.std.specs.Prelude.{◌≡◌, ◌<◌, IfNone, IfSome, MatchOption, is_some, true, false, unsigned_abs, IfErr, IfOk, length, nat_eq};
 ghost use Rattle.civil_base.specs.{DateTimes.{instant, local_of, offset_of}, Instants.{instant_at, local_at}, Ranges.{is_in_years, IsOffset}, Layout.{day_part, time_part, zoned_text}};
-ghost use Rattle.sefunjaro_c.specs.{Read.{local_in, IsInstantOf, IsLocalRead, IsNoZonedText, IsZonedRead}, Times.{is_instant, is_near, nanos_at}, Answers.{is_shown, IsClockIn, IsTextIn, OfClock, Within, Where}, Opened.{StaysLent}};
-ghost use Rattle.sefunjaro_handles.specs.{Statuses.{IfRefused, out_of_memory}, Held.{OfZone, OnZone, IsZone}};
+ghost use Rattle.sefunjaro_c.specs.{Read.{local_in, IsInstantOf, IsLocalRead, IsNoZonedText, IsZonedRead}, Times.{is_instant, is_near, nanos_at}, Answers.{is_shown, IsClockIn, IsTextIn, OfClock, Within, Where}, Opened.{StaysLent}, Statuses.{IfRefused, out_of_memory}, Held.{OfZone, OnZone, IsZone}};
 ghost use Rattle.sefunjaro.specs.{Answered.{AreReadings, IsInForce}, Any.{Seen}, Clocks.{clock_at}, Rooms.{filled}};
 
 use crate::fault::{DONE, NO_MEMORY, NOT_OPEN, NOT_READ, OUT_OF_RANGE};
+use crate::handle::Handle;
+use crate::opened::Opened;
+use crate::view::View;
 use civil_base::{OffsetDateTime, PlainDateTime, UtcOffset, read_local, read_zoned, write_zoned};
 use sefunjaro::{AnyZone, Clock, Gap, InForce, Reading, fill};
-use sefunjaro_handles::{Handle, Opened, View};
 use std::alloc::Global;
 use zone_source::text_of;
 

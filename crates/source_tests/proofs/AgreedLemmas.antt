@@ -2,8 +2,7 @@
 use Rattle.std.{proofs.Common.{◌≡◌, ℕ, List, Some, Ok, Err, sym, ap, ◌∙◌, subst}, specs.FinMap.{get}, specs.Prelude.{option_map}}
 use Rattle.zone_table.specs.{Resolved.{resolved_in}, declared.table.Table.{Table}, declared.zone.ZoneInfo.{ZoneInfo}}
 use Rattle.zone_spans.specs.{Compiled.{compiled}, Lines.{Rulesets}}
-use Rattle.tz_lookup.specs.Compiles.{compiled_in, spans_of, IsCompiledAs}
-use Rattle.tz_zone.specs.declared.set.FixedTimespanSet.{FixedTimespanSet}
+use Rattle.tz_lookup.specs.{Compiles.{compiled_in, spans_of, IsCompiledAs}, declared.set.FixedTimespanSet.{FixedTimespanSet}}
 use Rattle.tz_posix.specs.{Agreement.{RuledValue, value_of}, Parses.{IsInRange, IsParsed}, PosixShown.{posix_of}, Ranges.{posix_range}, Resolved.{resolved}, Spells.{Spells}, Values.{TzValue}, declared.error.ParseError.{ParseError}}
 use Rattle.tz_posix.specs.declared.{error.ParseError.TheVariants.{Grammar, UnknownName, Range}, posix.PosixTz.{PosixTz}}
 

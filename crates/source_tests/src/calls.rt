@@ -15,19 +15,17 @@ use std::sync::ledger::{Blank, Ledger};
 use tz_ever::{EverFault, Recurrence, ZoneSet, ZoneTz};
 use tz_lookup::{
     CompactTz, Database, FixedTimespanSet, Offset, OffsetDateTimeExt, OffsetResult,
-    PrimitiveDateTimeExt, Steps, TimeZone, Tz,
+    PrimitiveDateTimeExt, Steps, TimeZone, Tz, ZoneFault,
 };
 use tz_posix::{Date, PosixTz, Time};
-use tz_zone::ZoneFault;
 use zone_answers::open_zone;
 use zone_list::list_lines;
 use zone_spans::TableTransitions;
-use zone_table::Table;
+use zone_table::{DaySpec, Month, Table, Weekday, Year};
 use zone_tail::laws::both_offsets;
 use zone_tzif::{EverTailFault, from_set, tail_for_ever, tzif_for_ever};
 use zone_tzif_core::{ZoneFile, read_file};
 use zone_uses::{Moved, next_change};
-use zone_values::{DaySpec, Month, Weekday, Year};
 
 fn fields(alloc: Global) -> bool {
     let day = DaySpec::Last(Weekday::Sunday).to_concrete_day(2024, Month::October);

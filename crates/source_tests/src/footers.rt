@@ -7,8 +7,8 @@ use civil_base::{OffsetDateTime, PlainDateTime, read_local};
 use std::alloc::Global;
 use std::process::Abort;
 use tz_ever::Recurrence;
+use tz_lookup::{TimeZone, Tz};
 use tz_tzif::{FileSpans, Footer, TzifOwner, TzifTz, spans_of};
-use tz_zone::{TimeZone, Tz};
 use zone_tzif_core::{ZoneFile, read_file};
 
 /// A footer and, after `|`, seconds from 1970-01-01 00:00:00 UTC, each with the offset in seconds, 1 for daylight saving time and 0 for

@@ -9,10 +9,8 @@ use sefunjaro::{
     AnySourceFault, AnyZone, Change, Date, FileZone, Month, OffsetDateTime, OpenFault, OpenSource,
     OpenZone, Ring, Time, ZoneFault,
 };
-use sefunjaro_handles::Opened;
 use std::alloc::Global;
 use std::process::Abort;
-use std::sync::Arc;
 use zone_source::source_fault_bytes;
 
 fn plain_source(rt: &impl Abort, alloc: Global, text: &[u8]) -> OpenSource {
@@ -58,17 +56,10 @@ fn expect_new_york(rt: &impl Abort, alloc: Global, zone: &OpenZone) {
     expect_file(rt, alloc, zone);
 }
 
-/// Asserts that a zone is held by two.
-fn expect_shared(rt: &impl Abort, alloc: Global, zone: OpenZone) {
-    let zone = Arc::new(alloc, AnyZone::Source(zone)).expect(rt, "memory");
-    holds(rt, "shared", Opened::shared(alloc, &zone).is_ok());
-}
-
 /// Asserts the zone of a source.
 fn expect_zone(rt: &impl Abort, alloc: Global, source: &OpenSource) {
     let zone = zone_in(rt, alloc, source, "America/New_York");
     expect_new_york(rt, alloc, &zone);
-    expect_shared(rt, alloc, zone);
 }
 
 fn has_one_name(source: &OpenSource) -> bool {
@@ -80,7 +71,6 @@ fn a_source_in_plain_form_is_opened(rt: HostRuntime) {
     let source = plain_source(&rt, rt.alloc(), NEW_YORK);
     holds(&rt, "names", has_one_name(&source));
     expect_zone(&rt, rt.alloc(), &source);
-    holds(&rt, "held", Opened::source(rt.alloc(), source).is_ok());
 }
 
 /// A zone whose rules end in 2150, so that its lines don't go on.
@@ -326,8 +316,6 @@ fn a_file_is_a_zone(rt: HostRuntime) {
 fn a_string_is_a_zone(rt: HostRuntime) {
     let zone = string_of(&rt, rt.alloc());
     expect_far_off(&rt, &zone);
-    let opened = Opened::zone(rt.alloc(), AnyZone::File(zone));
-    holds(&rt, "held", opened.is_ok());
 }
 
 /// Paris by the rules of Europe from 1996 on.

@@ -7,9 +7,8 @@ use crate::checks::holds;
 use crate::runs::bytes_of;
 use std::alloc::Global;
 use std::process::Abort;
-use zone_command::{Status, run_zone};
+use zone_command::{AnySource, OverSource, Status, run_zone};
 use zone_outside::{MemClock, MemEnvironment, MemExchange, MemShelf, MemSink};
-use zone_serving::{AnySource, OverSource};
 
 /// The source: Berlin's rules from 1996 on in compact lines, a link, and a zone that doesn't go on.
 const SOURCE: &str = "\

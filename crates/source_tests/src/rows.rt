@@ -2,7 +2,7 @@
 
 use std::process::Abort;
 use std::str::Split;
-use tz_zone::Offset;
+use tz_lookup::Offset;
 
 /// The next field of a row.
 pub(crate) fn field<'x>(rt: &impl Abort, fields: &mut Split<'x, char>) -> &'x str {

@@ -2,8 +2,7 @@
 use Rattle.std.proofs.Common.{◌≡◌, List, [], ◌∷◌, map, take, length, ◌≤◌, ℤ, pos, int_lt, sym, ap, ◌∙◌, subst}
 use Rattle.civil_base.specs.{DateTimes.{instant, local_of, offset_of}, Instants.{instant_at}, Ranges.{IsOffset}, declared.offset_date_time.OffsetDateTime.{OffsetDateTime}}
 use Rattle.zone_spans.specs.Schedules.{instants, total_at}
-use Rattle.tz_zone.specs.{Answers.{EachOf, listed}, Cursors.{cursor_left}, InForce.{GivesAt, all_in_force, shown_of, totals_at}, Sets.{schedule_of}, Zones.{IsGivenFor, span_shown, total_shown}, declared.time_zone.SpanCursor.{SpanCursor}}
-use Rattle.tz_zone.specs.declared.{time_zone.OffsetResult.{OffsetResult}, time_zone.OffsetResult.TheVariants.{Some, Ambiguous, None}, set.FixedTimespanSet.{FixedTimespanSet}, tz.TzOffset.{TzOffset}}
+use Rattle.tz_lookup.specs.{Answers.{EachOf, listed}, Cursors.{cursor_left}, InForce.{GivesAt, all_in_force, shown_of, totals_at}, Sets.{schedule_of}, Zones.{IsGivenFor, span_shown, total_shown}, declared.time_zone.SpanCursor.{SpanCursor}, declared.{time_zone.OffsetResult.{OffsetResult}, time_zone.OffsetResult.TheVariants.{Some, Ambiguous, None}, set.FixedTimespanSet.{FixedTimespanSet}, tz.TzOffset.{TzOffset}}}
 use Rattle.tz_ever.{specs.Ever.{ever_left}, specs.Recurrences.{RepeatsAs, ZoneGives, turned, zone_total}, specs.declared.recurrence.Recurrence.{Recurrence}, proofs.NearLemmas.{turned_gives, turned_total}, proofs.TotalLemmas.{AgreeNear, all_moved, same_count, same_totals}}
 
 agree : (recurrence : Recurrence) (set : FixedTimespanSet) (x : ℤ) → RepeatsAs recurrence set

@@ -4,7 +4,7 @@ use Rattle.basics.specs.ComparisonLaws.{le_fail, le_pass}
 use Rattle.civil_base.specs.Instants.{seconds_of}
 use Rattle.zone_spans.specs.{Entries.{Entry}, declared.span.FixedTimespan.{FixedTimespan}}
 use Rattle.tz_ever.specs.InForce.{span_at, span_by}
-use Rattle.tz_zone.specs.{Compiles.{spans_of}, InForce.{IsInForce}, SecondLaws.{same_test}, Sets.{shift_of, span_in}, Spans.{IsCut}, declared.set.FixedTimespanSet.{FixedTimespanSet}}
+use Rattle.tz_lookup.specs.{Compiles.{spans_of}, InForce.{IsInForce}, SecondLaws.{same_test}, Sets.{shift_of, span_in}, Spans.{IsCut}, declared.set.FixedTimespanSet.{FixedTimespanSet}}
 
 -- span k of the entries behind a first span
 abbrev pub numbered : FixedTimespan → FixedTimespan → List Entry → ℕ → FixedTimespan

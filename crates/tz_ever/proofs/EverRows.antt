@@ -2,10 +2,7 @@
 use Rattle.std.{proofs.Common.{◌≡◌, refl, [], ◌∷◌, map, take, drop, true, false, pos, List, codes, ℤ, ◌+ℤ◌, ◌-ℤ◌, ◌*ℤ◌, Bool, ℕ, ◌*◌, Some, None, Result, Ok, Err, is_ok}, specs.Ordering.{int_eq}}
 use Rattle.basics.specs.{Dates.{last_with}, Days.{days_after_zero, year_start, days_through, days_into_year, day, is_leap, days_in_year, days_in_month}, Weekdays.{weekday_of}}
 use Rattle.civil_base.specs.Instants.{instant_at}
-use Rattle.zone_values.specs.{Days.{named_day, first_from, is_in_year}, declared.day.DaySpec.TheVariants.{FirstOnOrAfter}, declared.month.Month.{Month}, declared.month.Month.TheVariants.{March, November}, declared.time.TimeType.TheVariants.{Wall}}
-use Rattle.zone_values.specs.declared.{weekday.Weekday.TheVariants.{Sunday}, year.Year.TheVariants.{Maximum, Number}}
-use Rattle.zone_table.specs.{Formats.{abbreviation, filled}, Moments.{applies_to_year, instant_of, last_year, moment}, declared.zone.Format.TheVariants.{Placeholder}, declared.rule.RuleInfo.{RuleInfo}, declared.zone.Saving.TheVariants.{Multiple}}
-use Rattle.zone_table.specs.declared.zone.ZoneInfo.{ZoneInfo}
+use Rattle.zone_table.specs.{Days.{named_day, first_from, is_in_year}, declared.day.DaySpec.TheVariants.{FirstOnOrAfter}, declared.month.Month.{Month}, declared.month.Month.TheVariants.{March, November}, declared.time.TimeType.TheVariants.{Wall}, declared.{weekday.Weekday.TheVariants.{Sunday}, year.Year.TheVariants.{Maximum, Number}}, Formats.{abbreviation, filled}, Moments.{applies_to_year, instant_of, last_year, moment}, declared.zone.Format.TheVariants.{Placeholder}, declared.rule.RuleInfo.{RuleInfo}, declared.zone.Saving.TheVariants.{Multiple}, declared.zone.ZoneInfo.{ZoneInfo}}
 use Rattle.zone_spans.specs.{Bounds.{is_bounded_line}, Collapse.{kept_of, kept_with, collapsed, without_first}, Compiled.{compiled, compiled_over, set_of_lines_over}}
 use Rattle.zone_spans.specs.{Entries.{Entry, first_span, entries_from_over, entries_of_over, next_start_over, sorted_entries_over}, Faults.{is_outside, some_year, leaves_year_over, schedule_fault_over}}
 use Rattle.zone_spans.specs.{Firings.{earliest, fired, year_firings, firings_of_years, line_firings_over, years_over}, Lines.{Rulesets, zone_lines}, Listing.{listed_from, start_firing}, Schedules.{totals_of, total_at}, Windows.{line_end}}
@@ -14,8 +11,7 @@ use Rattle.zone_spans.specs.Settled.{is_lasting, is_settled}
 use Rattle.zone_spans.specs.declared.span.FixedTimespanSet as spans
 use Rattle.tz_ever.specs.{InForce.{span_by}, Ever.{ever_span, ever_total}, ForEver.{IsForEver, ever_years}, Seam.{brought_back, cycles_past, next_seam, seam}, Recurrences.{brought_on, turned}, Stretches.{cycle_begin, ever_begin, ever_end, zone_begin, zone_end}, Unrolled.{again, entries_before, entries_from, repeated_entries, told, unrolled_entries}}
 use Rattle.tz_ever.specs.declared.recurrence.Recurrence.TheVariants.{Never, Later, Always}
-use Rattle.tz_lookup.specs.Stretches.{stretch_begin, stretch_end}
-use Rattle.tz_zone.specs.declared.set.FixedTimespanSet.{FixedTimespanSet}
+use Rattle.tz_lookup.specs.{Stretches.{stretch_begin, stretch_end}, declared.set.FixedTimespanSet.{FixedTimespanSet}}
 
 -- ---- the seam and its cycles: 2501-12-31 24:00 is 2102-01-01, and so is that of 2901; before it nothing moves
 brought : map brought_back (

@@ -8,7 +8,7 @@ use Rattle.zone_spans.specs.declared.span.FixedTimespanSet as spans
 use Rattle.tz_ever.specs.{AnyYear.{AreEnough, IsFrom2101, instants_on, span_for_ever, span_told, total_for_ever}, InForce.{span_at}, Ever.{IsRepeating, ever_span, ever_total}, ForEver.{IsForEver, ever_years}, Seam.{cycles_past}}
 use Rattle.tz_ever.specs.SeamLaws.{ArePast, back_by, cycles_past-are}
 use Rattle.tz_ever.proofs.NearLemmas.{ever_total-is}
-use Rattle.tz_zone.specs.{Compiles.{spans_of}, declared.set.FixedTimespanSet.{FixedTimespanSet}}
+use Rattle.tz_lookup.specs.{Compiles.{spans_of}, declared.set.FixedTimespanSet.{FixedTimespanSet}}
 
 -- ---- the laws of a zone that goes on
 abbrev pub EnoughLaw : Type 0

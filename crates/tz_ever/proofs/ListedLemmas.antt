@@ -3,7 +3,7 @@ use Rattle.std.proofs.{Common.{◌≡◌, ℕ, suc, ◌<◌, ℤ, pos, ◌≤ℤ
 use Rattle.basics.specs.{ComparisonLaws.{lt_le}, SignedLaws.{signed}}
 use Rattle.civil_base.specs.Instants.{nanos_of, seconds_of}
 use Rattle.zone_spans.specs.Entries.{Entry}
-use Rattle.tz_zone.specs.{Compiles.{spans_of}, SecondLaws.{one_second, second_is}, Sets.{IsAccepted, schedule_of, shift_of, shifts_of}, Spans.{Shift, TimesDontFall, shift_at}, declared.set.FixedTimespanSet.{FixedTimespanSet}}
+use Rattle.tz_lookup.specs.{Compiles.{spans_of}, SecondLaws.{one_second, second_is}, Sets.{IsAccepted, schedule_of, shift_of, shifts_of}, Spans.{Shift, TimesDontFall, shift_at}, declared.set.FixedTimespanSet.{FixedTimespanSet}}
 use Rattle.tz_ever.{specs.InForce.{span_at}, specs.Unrolled.{IsLastThere, unrolled, unrolled_end}, proofs.CutLemmas.{in_force-is}, proofs.TableLemmas.{shift_read}, proofs.UnrolledShows.{climb_at, set_climbs, unrolled_climbs}}
 
 begins_at : (s : ℤ) → seconds_of (nanos_of s) ≡ s

@@ -4,7 +4,7 @@ use Rattle.basics.specs.SignedLaws.{signed}
 use Rattle.civil_base.specs.{Instants.{instant_at}, RangeLaws.{offset_greatest, offset_least}, Ranges.{IsOffset}}
 use Rattle.zone_spans.specs.{Entries.{total}, Schedules.{total_at}, declared.span.FixedTimespan.{FixedTimespan}, Cycle.{instant_on}}
 use Rattle.tz_ever.{specs.{InForce.{span_at}, InForceLaws.{total_at-is}, Ever.{IsRepeating, ever_span, ever_total}, Recurrences.{RepeatsAs, ZoneGives, turned, zone_span, zone_total}, declared.recurrence.Recurrence.{Recurrence}, declared.recurrence.Recurrence.TheVariants.{Never, Later, Always}, Seam.{IsAtSeam, brought_back, cycles_past}, SeamLaws.{ArePast, back_by, cycles_past-are}}, proofs.CutLemmas.{in_force-is}, proofs.TurnLemmas.{always_is}}
-use Rattle.tz_zone.specs.{CompileLaws.{totals_same}, Compiles.{spans_of}, InForce.{GivesAt}, Sets.{schedule_of}, declared.set.FixedTimespanSet.{FixedTimespanSet}}
+use Rattle.tz_lookup.specs.{CompileLaws.{totals_same}, Compiles.{spans_of}, InForce.{GivesAt}, Sets.{schedule_of}, declared.set.FixedTimespanSet.{FixedTimespanSet}}
 
 -- ---- numbers of cycles a cycle apart at most
 abbrev OneApart : ℕ → ℕ → Type 0

@@ -8,8 +8,8 @@ use Rattle.zone_spans.specs.declared.span.FixedTimespanSet as spans
 use Rattle.tz_ever.specs.{AnyYear.{is_before_cycle, span_for_ever, span_told, total_for_ever}, InForce.{span_at}, Ever.{ever_span, ever_total}, ForEver.{IsForEver, ever_years}}
 use Rattle.tz_ever.specs.Opens.{DoesNotGoOn, IsEverFault, IsFoundForEver, IsGoing, IsLater, IsZoneToday, fault_later}
 use Rattle.tz_ever.proofs.ForEverLemmas.{EnoughLaw, are_enough}
-use Rattle.tz_zone.specs.{Compiles.{IsCompiledAs, IsZoneFault, compiled_in, compiled_in_over, spans_of}, Sets.{schedule_of}, declared.compile.ZoneFault.{ZoneFault}, declared.set.FixedTimespanSet.{FixedTimespanSet}}
-use Rattle.tz_zone.specs.declared.compile.ZoneFault.TheVariants as zone_fault
+use Rattle.tz_lookup.specs.{Compiles.{IsCompiledAs, IsZoneFault, compiled_in, compiled_in_over, spans_of}, Sets.{schedule_of}, declared.compile.ZoneFault.{ZoneFault}, declared.set.FixedTimespanSet.{FixedTimespanSet}}
+use Rattle.tz_lookup.specs.declared.compile.ZoneFault.TheVariants as zone_fault
 
 same_some : {X : Type 0} (a b : X) → Some a ≡ Some b → a ≡ b
 same_some a b e = cc

@@ -3,7 +3,7 @@ use Rattle.std.proofs.Common.{◌≡◌, ℕ, ◌*◌, ℤ, pos, ◌+ℤ◌, ◌
 use Rattle.basics.specs.SignedLaws.{signed}
 use Rattle.civil_base.specs.Instants.{nanos_of, seconds_of}
 use Rattle.zone_spans.specs.Schedules.{Schedule, total_at}
-use Rattle.tz_zone.specs.{SecondLaws.{IsSecond, one_second, second_is, total_is}, Sets.{schedule_of}, Spans.{total_from}, declared.set.FixedTimespanSet.{FixedTimespanSet}}
+use Rattle.tz_lookup.specs.{SecondLaws.{IsSecond, one_second, second_is, total_is}, Sets.{schedule_of}, Spans.{total_from}, declared.set.FixedTimespanSet.{FixedTimespanSet}}
 use Rattle.tz_ever.specs.{Ever.{ever_total}, Recurrences.{turned, zone_total}, Seam.{brought_back, cycles_past}, SeamLaws.{ArePast, back_by, cycles_past-are}}
 use Rattle.tz_ever.{specs.declared.{recurrence.Recurrence.{Recurrence}, recurrence.Recurrence.TheVariants.{Never, Later, Always}}, proofs.TurnLemmas.{always_is}}
 

@@ -4,8 +4,7 @@ use Rattle.std.specs.Int.{int_max, int_min}
 use Rattle.basics.specs.{ComparisonLaws.{lt_pass}, SignedLaws.{signed}}
 use Rattle.civil_base.specs.Instants.{nanos_of}
 use Rattle.zone_spans.specs.Schedules.{total_at}
-use Rattle.tz_zone.specs.{Sets.{schedule_of}, declared.set.FixedTimespanSet.{FixedTimespanSet}}
-use Rattle.tz_lookup.specs.{Stretches.{IsStretch, stretch_begin, stretch_end}, declared.stretch.Stretch.{Stretch}}
+use Rattle.tz_lookup.specs.{Sets.{schedule_of}, declared.set.FixedTimespanSet.{FixedTimespanSet}, Stretches.{IsStretch, stretch_begin, stretch_end}, declared.stretch.Stretch.{Stretch}}
 use Rattle.tz_ever.specs.{Ever.{ever_total}, Recurrences.{zone_total}, Seam.{brought_back, cycles_past, next_seam}, SeamLaws.{back_by, back_is, one_number}, Stretches.{begin_past, cycle_begin, end_past, ever_begin, ever_end}, Unrolled.{next_seam_second, seam_second}}
 use Rattle.tz_ever.{specs.declared.recurrence.Recurrence.TheVariants.{Always}, proofs.TurnLemmas.{always_is}}
 

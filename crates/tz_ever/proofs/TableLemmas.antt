@@ -3,7 +3,7 @@ use Rattle.std.proofs.{Common.{◌≡◌, ℕ, zero, suc, ◌+◌, ◌-◌, ◌*
 use Rattle.std.proofs.{Math.Nat.{div-add-mod', mul-le-mul_right}, lemmas.Bool.{cases_Bool, cases_lt}, lemmas.List.{get_or-append-add, get_or-map, length-append, length-map}}
 use Rattle.basics.specs.{ComparisonLaws.{le_pass, lt_pass, lt_from_fail, lt_from_pass, lt_fail}, SignedLaws.{signed}}
 use Rattle.zone_spans.specs.{Cycle.{entry_on}, Entries.{Entry}, declared.span.FixedTimespan.{FixedTimespan}}
-use Rattle.tz_zone.specs.{Compiles.{spans_of}, Sets.{IsAccepted, IsSpanTime, schedule_of, shift_of, shifts_of, span_in}, Spans.{Shift, shift_at}, declared.set.FixedTimespanSet.{FixedTimespanSet}}
+use Rattle.tz_lookup.specs.{Compiles.{spans_of}, Sets.{IsAccepted, IsSpanTime, schedule_of, shift_of, shifts_of, span_in}, Spans.{Shift, shift_at}, declared.set.FixedTimespanSet.{FixedTimespanSet}}
 use Rattle.tz_ever.specs.{InForce.{span_at, span_by}, Seam.{seam}, Recurrences.{comes_again}, ZoneShown.{recurrence_of, zone_set_of}, TablesShown.{table_of}, declared.recurrence.Recurrence.{Recurrence}, declared.recurrence.Recurrence.TheVariants.{Never, Later, Always}, declared.table.ZoneTable.{ZoneTable}, Places.{IsPlace}, Unrolled.{again, entries_before, entries_from, entry_moved, next_seam_second, repeated_entries, seam_second, told, unrolled_entries}}
 use Rattle.tz_ever.proofs.{CutLemmas.{numbered, numbered_tail}, UnrolledLemmas.{Climb, above_all, before_step, none_come}, UnrolledShows.{cycle, cycle_cut, kept, kept_cut, least, old, past_greatest, set_climbs}}
 

@@ -5,7 +5,7 @@ use Rattle.std.specs.List.{list_all}
 use Rattle.basics.specs.{SignedLaws.{signed}}
 use Rattle.civil_base.specs.Ranges.{is_offset}
 use Rattle.zone_spans.specs.{Cycle.{seconds_on}, Entries.{Entry, total}, Schedules.{total_at}, declared.span.FixedTimespan.{FixedTimespan}}
-use Rattle.tz_zone.specs.{Compiles.{spans_of}, Sets.{IsAccepted, schedule_of, shift_of}, Spans.{Shift}, declared.set.FixedTimespanSet.{FixedTimespanSet}}
+use Rattle.tz_lookup.specs.{Compiles.{spans_of}, Sets.{IsAccepted, schedule_of, shift_of}, Spans.{Shift}, declared.set.FixedTimespanSet.{FixedTimespanSet}}
 use Rattle.tz_ever.specs.{Ever.{ever_span}, InForce.{has_come, span_at, span_by}, Recurrences.{RepeatsAs, turned, zone_span, zone_total}, Seam.{cycles_past, seam}, SeamLaws.{ArePast, back_by, cycles_past-are}, declared.recurrence.Recurrence.{Recurrence}, declared.recurrence.Recurrence.TheVariants.{Never, Later, Always}}
 use Rattle.tz_ever.specs.Unrolled.{IsTold, entries_before, entries_from, entry_moved, next_seam_second, repeated_entries, seam_second, told}
 use Rattle.tz_ever.proofs.{NearLemmas.{total_is, zone_total-is}, TurnLemmas.{always_is}, UnrolledLemmas.{Climb, Leaves, again_shows, climb_again, earlier}, UnrolledShows.{Offsets, ShowsLaw, again_offsets, begins, begins_is, climb_bound, climb_rises, cycle, cycle_cut, kept_offsets, least, leaves, offsets_of, past_greatest, repeats, set_climbs, shown_by_cycle, tests_of}}

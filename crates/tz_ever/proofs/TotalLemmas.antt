@@ -3,7 +3,7 @@ use Rattle.std.{proofs.Common.{◌≡◌, ℕ, zero, suc, Bool, true, false, con
 use Rattle.basics.specs.{ComparisonLaws.{eq_from_pass}, SignedLaws.{one_sided, signed}}
 use Rattle.civil_base.specs.{DateTimes.{at_offset, offset_of}, Instants.{instant_at}, RangeLaws.{offset_by_size}, Ranges.{IsOffset, greatest_offset}, declared.offset_date_time.OffsetDateTime.{OffsetDateTime}}
 use Rattle.zone_spans.specs.Schedules.{down_from, instants, offset_count, offsets}
-use Rattle.tz_zone.specs.{InForce.{all_in_force, in_force, shown_of, totals_at}, InForceLaws.{shown_at_offset}}
+use Rattle.tz_lookup.specs.{InForce.{all_in_force, in_force, shown_of, totals_at}, InForceLaws.{shown_at_offset}}
 
 -- an offset is that of the instant that it gives
 abbrev reads : (ℤ → ℤ) → ℤ → ℤ → Bool

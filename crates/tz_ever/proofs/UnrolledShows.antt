@@ -5,7 +5,7 @@ use Rattle.std.specs.List.{list_all}
 use Rattle.basics.specs.{ComparisonLaws.{le_from_lt, le_itself, le_le, lt_from_fail, lt_from_pass}, SignedLaws.{signed}}
 use Rattle.civil_base.specs.{Instants.{instant_at}, Ranges.{IsOffset, is_offset}}
 use Rattle.zone_spans.specs.{Cycle.{entry_on, instant_on}, Entries.{Entry, total}, Schedules.{total_at}, declared.span.FixedTimespan.{FixedTimespan}}
-use Rattle.tz_zone.specs.{Compiles.{spans_of}, InForce.{all_in_force}, Sets.{AreSpanTimes, IsAccepted, IsSpanTime, schedule_of, shift_of}, Spans.{Shift, TimesDontFall, shift_at}, declared.set.FixedTimespanSet.{FixedTimespanSet}}
+use Rattle.tz_lookup.specs.{Compiles.{spans_of}, InForce.{all_in_force}, Sets.{AreSpanTimes, IsAccepted, IsSpanTime, schedule_of, shift_of}, Spans.{Shift, TimesDontFall, shift_at}, declared.set.FixedTimespanSet.{FixedTimespanSet}}
 use Rattle.tz_ever.specs.{Ever.{IsRepeating, ever_span, ever_total}, InForce.{span_at, span_by}, Seam.{cycles_past, next_seam, seam}, Unrolled.{again, entries_before, entries_from, next_seam_second, seam_second, unrolled, unrolled_end, unrolled_entries}}
 use Rattle.tz_ever.specs.SeamLaws.{ArePast, back_by, back_is, cycles_past-are}
 use Rattle.tz_ever.proofs.{NearLemmas.{ever_total-is, near_after, total_is}, TotalLemmas.{same_in_force}, UnrolledLemmas.{Climb, IsCutAt, Leaves, again_shows, all_come, climb_again, climb_higher, climb_join, cut_at, earlier, none_come}}

@@ -2,7 +2,7 @@
 use Rattle.std.proofs.Common.{◌≡◌, ℤ, ◌≤◌, length, subst}
 use Rattle.civil_base.specs.Ranges.{IsOffset}
 use Rattle.zone_spans.specs.Schedules.{instants}
-use Rattle.tz_zone.specs.{Sets.{IsOrderlyZone, schedule_of}, declared.set.FixedTimespanSet.{FixedTimespanSet}}
+use Rattle.tz_lookup.specs.{Sets.{IsOrderlyZone, schedule_of}, declared.set.FixedTimespanSet.{FixedTimespanSet}}
 use Rattle.tz_ever.specs.{Recurrences.{RepeatsAs, zone_total}, ZoneShown.{recurrence_of, zone_in_range, zone_set_of}, declared.recurrence.Recurrence.{Recurrence}, declared.zone_set.ZoneSet.{ZoneSet}}
 
 pub record IsSound (recurrence : Recurrence) (set : FixedTimespanSet) : Type 0 where

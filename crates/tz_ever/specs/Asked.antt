@@ -1,6 +1,5 @@
 -- What is seen of a zone that is asked.
-use Rattle.tz_zone.specs.declared.set.FixedTimespanSet.{FixedTimespanSet}
-use Rattle.tz_lookup.specs.CompactZones.{compact_of}
+use Rattle.tz_lookup.specs.{declared.set.FixedTimespanSet.{FixedTimespanSet}, CompactZones.{compact_of}}
 use Rattle.tz_ever.specs.declared.{recurrence.Recurrence.{Recurrence}, zone_tz.ZoneTz.{ZoneTz}}
 
 -- the set of a zone

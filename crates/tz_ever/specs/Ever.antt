@@ -3,7 +3,7 @@ use Rattle.std.specs.Prelude.{◌≡◌, List, map, ℤ}
 use Rattle.civil_base.specs.{DateTimes.{at_offset, offset_of}, declared.offset_date_time.OffsetDateTime.{OffsetDateTime}}
 use Rattle.zone_spans.specs.{Schedules.{total_at}, declared.span.FixedTimespan.{FixedTimespan}, Cycle.{instant_on}}
 use Rattle.tz_ever.specs.{InForce.{span_at}, Seam.{IsAtSeam, brought_back}}
-use Rattle.tz_zone.specs.{Compiles.{spans_of}, Cursors.{cursor_left}, Sets.{schedule_of}, declared.time_zone.SpanCursor.{SpanCursor}, declared.set.FixedTimespanSet.{FixedTimespanSet}}
+use Rattle.tz_lookup.specs.{Compiles.{spans_of}, Cursors.{cursor_left}, Sets.{schedule_of}, declared.time_zone.SpanCursor.{SpanCursor}, declared.set.FixedTimespanSet.{FixedTimespanSet}}
 
 -- at the seam the set shows what it shows a cycle later
 abbrev pub IsRepeating : FixedTimespanSet → Type 0

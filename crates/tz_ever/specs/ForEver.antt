@@ -3,7 +3,7 @@ use Rattle.std.specs.{Prelude.{◌≡◌, ℕ, List, true, Ok}, List.{list_all}}
 use Rattle.zone_table.specs.declared.zone.ZoneInfo.{ZoneInfo}
 use Rattle.zone_spans.specs.{Bounds.{is_bounded_line}, Compiled.{compiled, compiled_over}, Lines.{Rulesets, zone_lines}, Schedules.{is_in_offset_range, totals_of}, GoesOn.{GoesOn}}
 use Rattle.zone_spans.specs.declared.span.FixedTimespanSet as spans
-use Rattle.tz_zone.specs.{Compiles.{spans_of}, declared.set.FixedTimespanSet.{FixedTimespanSet}}
+use Rattle.tz_lookup.specs.{Compiles.{spans_of}, declared.set.FixedTimespanSet.{FixedTimespanSet}}
 
 -- the years from 1800 to 2503: two past the seam's end
 abbrev pub ever_years : ℕ

@@ -4,8 +4,8 @@ use Rattle.zone_table.specs.{Resolved.{resolved_in}, declared.table.Table.{Table
 use Rattle.zone_spans.specs.{Bounds.{is_bounded_line}, Compiled.{compiled}, GoesOn.{GoesOn, goes_on}, Lines.{zone_lines}, Schedules.{is_in_offset_range, totals_of}, declared.fault.SpanFault.{SpanFault}, declared.fault.SpanFault.TheVariants.{DayRange}}
 use Rattle.zone_spans.specs.declared.span.FixedTimespanSet as spans
 use Rattle.tz_ever.specs.{AnyYear.{span_for_ever, total_for_ever}, Ever.{ever_span, ever_total}, ForEver.{IsForEver, ever_years}, declared.open.EverFault.{EverFault}, declared.open.EverFault.TheVariants.{LaterDay, LaterOffset, RulesEnd, Zone}}
-use Rattle.tz_zone.specs.{Compiles.{IsTooFar, IsZoneFault, compiled_in, compiled_in_over}, declared.compile.ZoneFault.{ZoneFault}, declared.set.FixedTimespanSet.{FixedTimespanSet}}
-use Rattle.tz_zone.specs.declared.compile.ZoneFault.TheVariants as zone_fault
+use Rattle.tz_lookup.specs.{Compiles.{IsTooFar, IsZoneFault, compiled_in, compiled_in_over}, declared.compile.ZoneFault.{ZoneFault}, declared.set.FixedTimespanSet.{FixedTimespanSet}}
+use Rattle.tz_lookup.specs.declared.compile.ZoneFault.TheVariants as zone_fault
 
 -- a name finds a zone with these lines, which has a schedule today whose totals are offsets
 pub record IsZoneToday (table : Table) (name : List ℕ) : Type 0 where

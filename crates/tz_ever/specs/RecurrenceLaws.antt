@@ -3,7 +3,7 @@ use Rattle.std.proofs.Common.{◌≡◌, refl, sym, ap, ◌∙◌}
 use Rattle.zone_spans.specs.Schedules.{total_at}
 use Rattle.tz_ever.specs.{Ever.{ever_total}, Recurrences.{turned, zone_total}}
 use Rattle.tz_ever.specs.declared.{recurrence.Recurrence.{Recurrence}, recurrence.Recurrence.TheVariants.{Never, Later}}
-use Rattle.tz_zone.specs.{Sets.{schedule_of}, declared.set.FixedTimespanSet.{FixedTimespanSet}}
+use Rattle.tz_lookup.specs.{Sets.{schedule_of}, declared.set.FixedTimespanSet.{FixedTimespanSet}}
 
 is_never : (set : FixedTimespanSet) → total_at (schedule_of set) ≡ zone_total Never set
 unfolding zone_total turned

@@ -2,7 +2,7 @@
 use Rattle.std.specs.Prelude.{ℕ, Bool, true, false, ◌&&◌, List, ℤ, pos, ◌≡◌, ◌+ℤ◌, int_le, int_lt, if◌then◌else◌}
 use Rattle.zone_spans.specs.{Schedules.{total_at}, declared.span.FixedTimespan.{FixedTimespan}}
 use Rattle.tz_ever.specs.{Ever.{IsRepeating}, InForce.{span_at}, Seam.{brought_back, next_seam_day, seam, seam_day}, declared.recurrence.Recurrence.{Recurrence}, declared.recurrence.Recurrence.TheVariants.{Never, Later, Always}}
-use Rattle.tz_zone.specs.{Compiles.{spans_of}, Sets.{schedule_of}, declared.set.FixedTimespanSet.{FixedTimespanSet}}
+use Rattle.tz_lookup.specs.{Compiles.{spans_of}, Sets.{schedule_of}, declared.set.FixedTimespanSet.{FixedTimespanSet}}
 
 -- an instant, or a local time, before the seam 31 cycles of 400 years later: each from the year -10298 on comes behind the seam
 unfoldable pub brought_on : ℤ → ℤ

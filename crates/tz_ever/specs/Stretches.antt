@@ -3,8 +3,7 @@ use Rattle.std.specs.Prelude.{ℕ, zero, suc, ◌*◌, ℤ, pos, ◌+ℤ◌, ◌
 use Rattle.std.specs.Int.{int_max, int_min}
 use Rattle.civil_base.specs.Instants.{nanos_of}
 use Rattle.zone_spans.specs.Schedules.{Schedule}
-use Rattle.tz_zone.specs.{Sets.{schedule_of}, declared.set.FixedTimespanSet.{FixedTimespanSet}}
-use Rattle.tz_lookup.specs.Stretches.{stretch_begin, stretch_end}
+use Rattle.tz_lookup.specs.{Sets.{schedule_of}, declared.set.FixedTimespanSet.{FixedTimespanSet}, Stretches.{stretch_begin, stretch_end}}
 use Rattle.tz_ever.specs.{Seam.{cycles_past}, Unrolled.{next_seam_second, seam_second}, declared.recurrence.Recurrence.{Recurrence}, declared.recurrence.Recurrence.TheVariants.{Never, Later, Always}}
 
 -- where they begin in the cycle, so many cycles past it: the cycle itself goes on from the years before

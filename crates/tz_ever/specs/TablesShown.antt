@@ -1,5 +1,5 @@
 -- The set that is seen of a table.
-use Rattle.tz_zone.specs.declared.set.FixedTimespanSet.{FixedTimespanSet}
+use Rattle.tz_lookup.specs.declared.set.FixedTimespanSet.{FixedTimespanSet}
 use Rattle.tz_ever.specs.{ZoneShown.{recurrence_of, zone_set_of}, Unrolled.{told}, declared.table.ZoneTable.{ZoneTable}}
 
 -- all entries that are told of the zone

@@ -2,7 +2,7 @@
 -- cycle comes again always, for 31 earlier ones too: from the year -10298 on.
 use Rattle.std.specs.Prelude.{◌≡◌, ◌<◌, ◌<ℤ◌, ℕ, zero, suc, List, [], ◌++◌, length, map, filter, slice_index_or, ℤ, pos, neg_ℤ, ◌+ℤ◌, ◌-ℤ◌, ◌≤ℤ◌, int_le, int_lt}
 use Rattle.zone_spans.specs.{Cycle.{entry_on}, Entries.{Entry}}
-use Rattle.tz_zone.specs.{Compiles.{spans_of}, declared.set.FixedTimespanSet.{FixedTimespanSet}}
+use Rattle.tz_lookup.specs.{Compiles.{spans_of}, declared.set.FixedTimespanSet.{FixedTimespanSet}}
 use Rattle.tz_ever.specs.{InForce.{span_at}, Seam.{seam}, declared.recurrence.Recurrence.{Recurrence}, declared.recurrence.Recurrence.TheVariants.{Never, Later, Always}}
 
 -- 2102-01-01 00:00:00 UTC, and 2502-01-01, in seconds: the cycle begins, and the next one

@@ -1,8 +1,7 @@
 -- What is seen of a zone.
 use Rattle.std.specs.Prelude.{ℤ}
 use Rattle.civil_base.specs.Ranges.{IsOffset}
-use Rattle.tz_zone.specs.declared.set.FixedTimespanSet.{FixedTimespanSet}
-use Rattle.tz_lookup.specs.CompactShown.{seen}
+use Rattle.tz_lookup.specs.{declared.set.FixedTimespanSet.{FixedTimespanSet}, CompactShown.{seen}}
 use Rattle.tz_ever.specs.{Recurrences.{turned, zone_total}, declared.recurrence.Recurrence.{Recurrence}, declared.zone_set.ZoneSet.{ZoneSet}}
 
 -- the set that it was built from

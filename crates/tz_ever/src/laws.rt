@@ -6,7 +6,7 @@ ghost use Rattle.zone_table.specs.declared.{table.Table.{Table}, zone.ZoneInfo.{
 ghost use Rattle.zone_spans.specs.{Lines.{Rulesets}, Schedules.{is_in_offset_range, total_at}, Entries.{Entry}};
 ghost use Rattle.tz_ever.specs.{AnyYear.{span_for_ever, total_for_ever}, Opens.{IsFoundForEver, IsZoneToday}, Ever.{IsRepeating, ever_span, ever_total}, Recurrences.{RepeatsAs}, ZoneShown.{recurrence_of, zone_set_of}, ForEver.{IsForEver}, InForce.{span_at}};
 ghost use Rattle.tz_ever.specs.{Recurrences.{zone_span, zone_total}, Unrolled.{told, unrolled, unrolled_end, IsLastThere, IsTold}, declared.recurrence.Recurrence.{Recurrence}};
-ghost use Rattle.tz_zone.specs.{Compiles.{IsCompiledAs, compiled_in, spans_of}, InForce.{all_in_force}, Sets.{IsAccepted, schedule_of}, declared.set.FixedTimespanSet.{FixedTimespanSet}};
+ghost use Rattle.tz_lookup.specs.{Compiles.{IsCompiledAs, compiled_in, spans_of}, InForce.{all_in_force}, Sets.{IsAccepted, schedule_of}, declared.set.FixedTimespanSet.{FixedTimespanSet}};
 
 use crate::cycle::for_ever;
 use crate::zone_set::ZoneSet;

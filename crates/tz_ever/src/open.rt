@@ -1,6 +1,6 @@
 //! A zone of a table, opened to 2099 or for ever.
 ghost use Rattle.std.specs.Prelude.{◌≡◌, IfErr, IfOk};
-ghost use Rattle.tz_zone.specs.{Sets.{IsAccepted, schedule_of}, declared.compile.ZoneFault.TheVariants.{NoMemory}};
+ghost use Rattle.tz_lookup.specs.{Sets.{IsAccepted, schedule_of}, declared.compile.ZoneFault.TheVariants.{NoMemory}};
 ghost use Rattle.tz_ever.specs.{Opens.{DoesNotGoOn, IsEverFault, IsFoundForEver, IsGoing, IsLater, ending_by, fault_later, IsZoneToday}, declared.open.EverFault.TheVariants.{Zone}};
 ghost use Rattle.tz_lookup.specs.declared.compact_set.CompactFault.TheVariants as compact_fault;
 ghost use Rattle.zone_spans.specs.declared.fault.SpanFault.TheVariants as span_fault;
@@ -11,8 +11,7 @@ use crate::laws;
 use crate::recurrence::Recurrence;
 use crate::zone_set::{EVER_YEARS, ZoneSet};
 use std::alloc::Global;
-use tz_lookup::{CompactFault, FixedTimespanSet};
-use tz_zone::{ZoneFault, compile_zone, compile_zone_over};
+use tz_lookup::{CompactFault, FixedTimespanSet, ZoneFault, compile_zone, compile_zone_over};
 use zone_spans::{SpanFault, TableTransitions};
 use zone_table::Table;
 
@@ -33,7 +32,7 @@ pub enum EverFault {
 impl ZoneSet {
     ghost use Rattle.std.specs.Prelude.{◌≡◌, IfErr, IfOk};
     ghost use Rattle.zone_table.specs.BoundedTables.{IsBoundedTable};
-    ghost use Rattle.tz_zone.specs.Compiles.{IsCompiledAs, IsZoneFault, compiled_in};
+    ghost use Rattle.tz_lookup.specs.Compiles.{IsCompiledAs, IsZoneFault, compiled_in};
     ghost use Rattle.tz_ever.specs.{ZoneShown.{recurrence_of, zone_set_of}, Opens.{IsEverFault, IsFoundForEver, IsZoneToday}, declared.recurrence.Recurrence.TheVariants.{Later, Never}};
 
     /// The zone that a name finds in a table, with its rules up to the end of 2099. The table is bounded.

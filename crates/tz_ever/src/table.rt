@@ -1,6 +1,6 @@
 //! The changes of a zone, as a table of spans.
 ghost use Rattle.std.specs.Prelude.{◌≡◌, ◌<◌, ◌≤◌, ◌*◌, length, pos, neg_ℤ, ℤ, ◌+ℤ◌, ◌≤ℤ◌, true};
-ghost use Rattle.tz_zone.specs.{Sets.{IsAccepted, IsSpanTime, schedule_of}, declared.set.FixedTimespanSet.{FixedTimespanSet}};
+ghost use Rattle.tz_lookup.specs.{Sets.{IsAccepted, IsSpanTime, schedule_of}, declared.set.FixedTimespanSet.{FixedTimespanSet}};
 ghost use Rattle.tz_ever.specs.{Places.{IsPlace}, Recurrences.{comes_again}, Unrolled.{entries_before, next_seam_second, repeated_entries, seam_second, told, unrolled_entries}, ZoneShown.{recurrence_of, zone_set_of}};
 
 use crate::laws;
@@ -8,7 +8,7 @@ use crate::recurrence::Recurrence;
 use crate::zone_set::ZoneSet;
 use std::marker::Brand;
 use std::sync::ledger::{Blank, Ledger};
-use tz_zone::{FixedTimespan, SpanTable, Steps, span_between};
+use tz_lookup::{FixedTimespan, SpanTable, Steps, span_between};
 
 /// 2102-01-01 00:00:00 UTC, in seconds from 1970-01-01 00:00:00 UTC.
 pub(crate) const SEAM: i64 = 4_165_516_800;
@@ -44,7 +44,7 @@ struct Place {
 
 impl<'a> ZoneTable<'a> {
     ghost use Rattle.std.specs.Prelude.{◌≡◌, ◌<◌, ◌≤◌, ◌≤ℤ◌, length, neg_ℤ, pos};
-    ghost use Rattle.tz_zone.specs.Sets.{IsAccepted, schedule_of, span_in};
+    ghost use Rattle.tz_lookup.specs.Sets.{IsAccepted, schedule_of, span_in};
     ghost use Rattle.tz_ever.specs.{Places.{IsPlace}, TablesShown.{table_of}, Unrolled.{repeated_entries, told, unrolled_entries}, ZoneShown.{recurrence_of, zone_set_of}};
     ghost use Rattle.tz_ever.specs.declared.recurrence.Recurrence.TheVariants.{Always, Later};
 

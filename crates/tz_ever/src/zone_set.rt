@@ -1,8 +1,7 @@
 //! A zone's spans, kept compactly, and whether its changes come again.
 ghost use Rattle.std.specs.Prelude.{◌<◌, ◌≤◌, ℤ, length};
 ghost use Rattle.zone_spans.specs.Schedules.{instants};
-ghost use Rattle.tz_zone.specs.Sets.{schedule_of, IsAccepted, IsOrderlyZone};
-ghost use Rattle.tz_lookup.specs.CompactShown.{seen};
+ghost use Rattle.tz_lookup.specs.{Sets.{schedule_of, IsAccepted, IsOrderlyZone}, CompactShown.{seen}};
 ghost use Rattle.tz_ever.specs.Recurrences.{RepeatsAs, zone_total};
 
 use crate::recurrence::Recurrence;
@@ -29,8 +28,7 @@ pub struct ZoneSet {
 
 impl ZoneSet {
     ghost use Rattle.std.specs.Prelude.{◌≡◌, MatchResult};
-    ghost use Rattle.tz_zone.specs.Sets.{schedule_of, IsAccepted};
-    ghost use Rattle.tz_lookup.specs.{CompactFaults.{IsCompactFault}, CompactShown.{seen}};
+    ghost use Rattle.tz_lookup.specs.{Sets.{schedule_of, IsAccepted}, CompactFaults.{IsCompactFault}, CompactShown.{seen}};
     ghost use Rattle.tz_ever.specs.{Recurrences.{RepeatsAs}, ZoneShown.{recurrence_of, zone_set_of}};
 
     /// A set whose changes come again as that says, kept compactly: where they do, it shows at the seam what it shows a cycle later.

@@ -2,15 +2,13 @@
 ghost use Rattle.std.specs.Prelude.{◌≡◌, ℤ, ◌≤◌, ◌%◌, ◌*ℤ◌, ◌≤ℤ◌, length, ◌&&◌, int_le, int_lt, pos, unsigned_abs};
 ghost use Rattle.civil_base.specs.{Clock.{nanos_per_day}, DateTimes.{local_of, offset_of}, Julian.{day_of_julian}, Ranges.{IsDay, IsOffset}};
 ghost use Rattle.zone_spans.specs.{Entries.{total}, Schedules.{instants}};
-ghost use Rattle.tz_zone.specs.Sets.{schedule_of, IsOrderlyZone};
-ghost use Rattle.tz_lookup.specs.CompactZones.{compact_of};
+ghost use Rattle.tz_lookup.specs.{Sets.{schedule_of, IsOrderlyZone}, CompactZones.{compact_of}};
 ghost use Rattle.tz_ever.specs.{Ever.{ever_left}, Recurrences.{RepeatsAs, ZoneGives, is_kept, turned, zone_total}, Seam.{next_seam_day, seam_day}, declared.recurrence.Recurrence.TheVariants.{Always}};
 
 use crate::recurrence::Recurrence;
 use crate::zone_set::ZoneSet;
 use civil_base::{Date, OffsetDateTime, PlainDateTime};
-use tz_lookup::{AllInstants, CompactOffset, CompactTz, OffsetResult, TimeZone};
-use tz_zone::SpanCursor;
+use tz_lookup::{AllInstants, CompactOffset, CompactTz, OffsetResult, SpanCursor, TimeZone};
 
 /// The Julian day of 2102-01-01.
 const SEAM_DAY: i32 = 2_488_800;
@@ -44,7 +42,7 @@ pub struct ZoneCursor {
 
 impl<'a> ZoneTz<'a> {
     ghost use Rattle.std.specs.Prelude.{◌≡◌, ◌↔◌, IsTrue};
-    ghost use Rattle.tz_zone.specs.Sets.{schedule_of, IsOrderlyZone};
+    ghost use Rattle.tz_lookup.specs.Sets.{schedule_of, IsOrderlyZone};
     ghost use Rattle.tz_ever.specs.{ZoneShown.{recurrence_of, zone_set_of}, Asked.{asked_recurrence, asked_set}};
 
     /// The zone of a set.

@@ -1,8 +1,7 @@
 -- The kinds and the numbers so far, with one entry more.
 use Rattle.std.proofs.{Common.{◌≡◌, ◌<◌, ◌+◌, ℕ, zero, suc, List, [], ◌∷◌, ◌++◌, length, map, get_or, ℤ, refl, sym, ap, ◌∙◌, subst, ⊎_elim, arith}, lemmas.Bool.{cases_lt}, lemmas.List.{length_push, map-append}}
 use Rattle.zone_spans.specs.{Entries.{Entry}, declared.span.FixedTimespan.{FixedTimespan}}
-use Rattle.tz_zone.specs.declared.set.FixedTimespanSet.{FixedTimespanSet}
-use Rattle.tz_lookup.{specs.Kinds.{kind_in, with_kind, with_kinds}, specs.Compact.{entries_seen, set_seen, StandFor}, proofs.CompactLemmas.{seen_more, seen_same}, proofs.KindLemmas.{kind_stays, kinds_grow}}
+use Rattle.tz_lookup.{specs.{declared.set.FixedTimespanSet.{FixedTimespanSet}, Kinds.{kind_in, with_kind, with_kinds}, Compact.{entries_seen, set_seen, StandFor}}, proofs.{CompactLemmas.{seen_more, seen_same}, KindLemmas.{kind_stays, kinds_grow}}}
 
 pub with_kinds_more : (kinds spans : List FixedTimespan) (span : FixedTimespan) → with_kinds kinds (spans ++ span ∷ []) ≡ with_kind (with_kinds kinds spans) span
 unfolding with_kinds

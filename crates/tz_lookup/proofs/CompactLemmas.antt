@@ -1,8 +1,7 @@
 -- What times and numbers of kinds stand for.
 use Rattle.std.proofs.{Common.{◌≡◌, ℕ, zero, suc, ◌-◌, ◌<◌, ◌≤◌, List, [], ◌∷◌, ◌++◌, length, map, get_or, ℤ, pos, refl, ap, ◌∙◌, arith}, lemmas.List.{get_or_default}}
 use Rattle.zone_spans.specs.{Entries.{Entry}, declared.span.FixedTimespan.{FixedTimespan}}
-use Rattle.tz_zone.specs.{Sets.{shift_of, span_in}, Spans.{shift_at}}
-use Rattle.tz_lookup.specs.{Kinds.{kind_in}, Compact.{entries_seen, set_seen}}
+use Rattle.tz_lookup.specs.{Sets.{shift_of, span_in}, Spans.{shift_at}, Kinds.{kind_in}, Compact.{entries_seen, set_seen}}
 
 module _ (kinds : List FixedTimespan) where
   -- there is an entry for each time

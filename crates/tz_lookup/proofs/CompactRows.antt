@@ -2,9 +2,7 @@
 use Rattle.std.{proofs.Common.{◌≡◌, ◌-◌, ℕ, List, [], ◌∷◌, map, ℤ, pos, negsuc, ◌<ℤ◌, ◌≤ℤ◌, refl, sym, arith}, specs.Prelude.{codes}, proofs.lemmas.Int.{ints}}
 use Rattle.basics.specs.SignedLaws.{signed}
 use Rattle.zone_spans.specs.{declared.span.FixedTimespan.{FixedTimespan}, Years.{most_years, years_limit}}
-use Rattle.tz_zone.specs.declared.set.FixedTimespanSet.{FixedTimespanSet}
-use Rattle.tz_lookup.specs.{Compact.{entries_seen}, Kinds.{with_kinds, kinds_of}, Years.{year_second, years_begun, changes_in_year}, YearSeconds.{counted_end, rules_begin, last_year_begin, rules_end}}
-use Rattle.tz_lookup.proofs.YearLemmas.{day_at, first_second, last_second, years_are, begun_up_to, before_all, after_all}
+use Rattle.tz_lookup.{specs.{declared.set.FixedTimespanSet.{FixedTimespanSet}, Compact.{entries_seen}, Kinds.{with_kinds, kinds_of}, Years.{year_second, years_begun, changes_in_year}, YearSeconds.{counted_end, rules_begin, last_year_begin, rules_end}}, proofs.YearLemmas.{day_at, first_second, last_second, years_are, begun_up_to, before_all, after_all}}
 
 -- ---- the seconds at which years begin
 

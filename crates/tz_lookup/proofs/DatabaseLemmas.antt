@@ -7,9 +7,8 @@ use Rattle.std.specs.{Str.{bytes_eq}, Ordering.{is_eq, is_lt, match_ordering, or
 use Rattle.basics.specs.{InOrder.{in_order}, InOrderLaws.{same_in_order, any-in_order, tagged, RisesStrictly, less}, Keyed.{text_cmp}, TestLaws.{all_by_any}}
 use Rattle.zone_spans.specs.{declared.fault.SpanFault.{SpanFault}, Schedules.{is_in_offset_range}}
 use Rattle.zone_table.specs.declared.table.Table.{Table}
-use Rattle.tz_zone.specs.{Compiles.{compiled_in, spans_of, IsCompiledAs, IsTooFar, IsZoneFault}, Sets.{schedule_of, IsAccepted}, CompileLaws.{totals_same}, declared.compile.ZoneFault.{ZoneFault}, declared.set.FixedTimespanSet.{FixedTimespanSet}}
-use Rattle.tz_zone.specs.declared.compile.ZoneFault.TheVariants as zone_fault
-use Rattle.tz_lookup.specs.{Databases.{names_of, resolves, found_in, found_as, refusal_of, zone_refusal, first_refused, Named, IsDatabaseFault, name_shown}, declared.database.DatabaseFault.TheVariants.{Schedule, OffsetRange}}
+use Rattle.tz_lookup.specs.{Compiles.{compiled_in, spans_of, IsCompiledAs, IsTooFar, IsZoneFault}, Sets.{schedule_of, IsAccepted}, CompileLaws.{totals_same}, declared.compile.ZoneFault.{ZoneFault}, declared.set.FixedTimespanSet.{FixedTimespanSet}, Databases.{names_of, resolves, found_in, found_as, refusal_of, zone_refusal, first_refused, Named, IsDatabaseFault, name_shown}, declared.database.DatabaseFault.TheVariants.{Schedule, OffsetRange}}
+use Rattle.tz_lookup.specs.declared.compile.ZoneFault.TheVariants as zone_fault
 
 pub text_same : IsAntisymmetric text_cmp
 text_same = slice_cmp-IsAntisymmetric nat_cmp-IsAntisymmetric

@@ -6,8 +6,7 @@ use Rattle.basics.specs.{InOrderLaws.{any-in_order}, Keyed.{text_cmp}}
 use Rattle.zone_spans.specs.{Schedules.{totals_of}, declared.fault.SpanFault.TheVariants.{MissingUntil, NoStandardSpan}}
 use Rattle.zone_spans.specs.declared.span.FixedTimespanSet as spans
 use Rattle.zone_table.specs.declared.table.Table.{Table}
-use Rattle.tz_lookup.{specs.Databases.{resolves, names_of, refusal_of, first_refused, has_part}, proofs.DatabaseLemmas.{any-filter, text_same}}
-use Rattle.tz_zone.specs.declared.compile.ZoneFault.{ZoneFault, TheVariants.{UnknownZone, Schedule, OffsetRange}}
+use Rattle.tz_lookup.{specs.{Databases.{resolves, names_of, refusal_of, first_refused, has_part}, declared.compile.ZoneFault.{ZoneFault, TheVariants.{UnknownZone, Schedule, OffsetRange}}}, proofs.DatabaseLemmas.{any-filter, text_same}}
 
 -- ---- parts of names
 

@@ -3,8 +3,7 @@ use Rattle.std.specs.{Prelude.{◌≡◌, Bool, true, false, cond, ◌&&◌, ◌
 use Rattle.std.proofs.{Common.{refl, sym, ap, ◌∙◌}, Math.Bool.{or-false, or_assoc}, lemmas.Bool.{and_parts, or_parts}, lemmas.Slice.Eq.{bytes_eq-Decides}}
 use Rattle.basics.specs.ComparisonLaws.{eq_from_pass, eq_itself}
 use Rattle.zone_spans.specs.declared.span.FixedTimespan.{FixedTimespan}
-use Rattle.tz_zone.specs.declared.set.FixedTimespanSet.{FixedTimespanSet}
-use Rattle.tz_lookup.specs.Kinds.{is_same_kind, with_kind, with_kinds, kinds_of}
+use Rattle.tz_lookup.specs.{declared.set.FixedTimespanSet.{FixedTimespanSet}, Kinds.{is_same_kind, with_kind, with_kinds, kinds_of}}
 
 -- two kinds that are the same are one
 pub same_kind : (a b : FixedTimespan) → is_same_kind a b ≡ true → a ≡ b

@@ -4,8 +4,7 @@ use Rattle.std.specs.Prelude.{nat_lt}
 use Rattle.basics.specs.{ComparisonLaws.{le_fail, le_pass}, SignedLaws.{signed}}
 use Rattle.civil_base.specs.Instants.{nanos_of}
 use Rattle.zone_spans.specs.Schedules.{Schedule, total_at}
-use Rattle.tz_zone.specs.{SecondLaws.{IsSecond, one_second, second_is, total_is}, SpanLaws.{total_from_cut}, Spans.{IsCut, Shift, shift_at, total_from, total_of}}
-use Rattle.tz_lookup.specs.Stretches.{stretch_begin, begin_second, count_until, stretch_end, end_second, greatest_second, least_second}
+use Rattle.tz_lookup.specs.{SecondLaws.{IsSecond, one_second, second_is, total_is}, SpanLaws.{total_from_cut}, Spans.{IsCut, Shift, shift_at, total_from, total_of}, Stretches.{stretch_begin, begin_second, count_until, stretch_end, end_second, greatest_second, least_second}}
 
 begins_at : (s : ℤ) → IsSecond (nanos_of s) s
 begins_at s = record { low = omega (arith, signed); high = omega (arith, signed) }

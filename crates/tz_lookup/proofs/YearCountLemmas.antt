@@ -3,8 +3,7 @@ use Rattle.std.proofs.{Common.{◌≡◌, ℕ, zero, suc, ◌+◌, ◌-◌, ◌*
 use Rattle.std.proofs.lemmas.{Bool.Decides.{nat_tests}, Int.{ints}, List.{get_or_default, get_or_past, length-map}}
 use Rattle.basics.specs.ComparisonLaws.{le_le}
 use Rattle.zone_spans.specs.Entries.{Entry}
-use Rattle.tz_zone.specs.{declared.set.FixedTimespanSet.{FixedTimespanSet}, Sets.{shift_of, shifts_of, IsBetween, IsNear}, Spans.{Shift, shift_at, TimesDontFall, IsCut}}
-use Rattle.tz_lookup.{specs.YearCounts.{AreBefore, AreYearCounts, before_year}, specs.Years.{year_second, years_begun, changes_in_year, HaveBegun}, proofs.YearLemmas.{begun_up_to, years_are, year_long, year_rises}}
+use Rattle.tz_lookup.{specs.{declared.set.FixedTimespanSet.{FixedTimespanSet}, Sets.{shift_of, shifts_of, IsBetween, IsNear}, Spans.{Shift, shift_at, TimesDontFall, IsCut}, YearCounts.{AreBefore, AreYearCounts, before_year}, Years.{year_second, years_begun, changes_in_year, HaveBegun}}, proofs.YearLemmas.{begun_up_to, years_are, year_long, year_rises}}
 
 at_or_after : (a s : ℤ) → (s -ℤ pos 1) <ℤ a → s ≤ℤ a
 at_or_after a s h = omega (arith, ints, h)

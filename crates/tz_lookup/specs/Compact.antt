@@ -1,8 +1,7 @@
 -- The set that times beside the numbers of kinds stand for.
 use Rattle.std.specs.Prelude.{◌≡◌, ◌<◌, ℕ, List, [], ◌∷◌, length, map, slice_index_or, ℤ}
 use Rattle.zone_spans.specs.{Entries.{Entry}, declared.span.FixedTimespan.{FixedTimespan}}
-use Rattle.tz_zone.specs.declared.set.FixedTimespanSet.{FixedTimespanSet}
-use Rattle.tz_lookup.specs.Kinds.{kind_in, with_kinds}
+use Rattle.tz_lookup.specs.{declared.set.FixedTimespanSet.{FixedTimespanSet}, Kinds.{kind_in, with_kinds}}
 
 -- each time with the kind of its number
 unfoldable pub entries_seen : List FixedTimespan → List ℤ → List ℕ → List Entry

@@ -1,8 +1,7 @@
 -- Why a set has no compact form.
 use Rattle.zone_spans.specs.Schedules.{Schedule}
-use Rattle.tz_zone.specs.{Faults.{IsFault}, declared.set.TzFault.{TzFault}}
-use Rattle.tz_zone.specs.declared.set.TzFault.TheVariants as zone
-use Rattle.tz_lookup.specs.declared.compact_set.CompactFault.{CompactFault, TheVariants.{OffsetRange, Falling, Bound, NoMemory}}
+use Rattle.tz_lookup.specs.{Faults.{IsFault}, declared.set.TzFault.{TzFault}, declared.compact_set.CompactFault.{CompactFault, TheVariants.{OffsetRange, Falling, Bound, NoMemory}}}
+use Rattle.tz_lookup.specs.declared.set.TzFault.TheVariants as zone
 
 -- the same fault
 abbrev pub compact_fault : TzFault → CompactFault

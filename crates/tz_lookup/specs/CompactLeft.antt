@@ -1,8 +1,7 @@
 -- What is left to give of the date-times of a local time in a compact zone.
 use Rattle.std.specs.Prelude.{List}
 use Rattle.civil_base.specs.declared.offset_date_time.OffsetDateTime.{OffsetDateTime}
-use Rattle.tz_zone.specs.{InstantsLeft.{dates_left}, declared.instants.InstantsIn.{InstantsIn}}
-use Rattle.tz_lookup.specs.declared.compact_set.CompactSet.{CompactSet}
+use Rattle.tz_lookup.specs.{InstantsLeft.{dates_left}, declared.instants.InstantsIn.{InstantsIn}, declared.compact_set.CompactSet.{CompactSet}}
 use Rattle.tz_lookup.specs.contracts.compact_set.CompactSetSpanTable.TheImpl as of_compact
 
 -- those at the spans that contain the local second, from the next one on

@@ -1,6 +1,5 @@
 -- What is seen of a compact zone.
-use Rattle.tz_zone.specs.declared.set.FixedTimespanSet.{FixedTimespanSet}
-use Rattle.tz_lookup.specs.{CompactShown.{seen}, declared.compact_tz.CompactTz.{CompactTz}}
+use Rattle.tz_lookup.specs.{declared.set.FixedTimespanSet.{FixedTimespanSet}, CompactShown.{seen}, declared.compact_tz.CompactTz.{CompactTz}}
 
 -- the set of a zone
 abbrev pub compact_of : CompactTz → FixedTimespanSet

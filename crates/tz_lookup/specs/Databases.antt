@@ -5,9 +5,8 @@ use Rattle.zone_spans.specs.{Schedules.{is_in_offset_range, totals_of}, declared
 use Rattle.zone_spans.specs.declared.fault.SpanFault.TheVariants as span_fault
 use Rattle.zone_spans.specs.declared.span.FixedTimespanSet as spans
 use Rattle.zone_table.specs.{Resolved.{resolved_in}, declared.table.Table.{Table}}
-use Rattle.tz_zone.specs.{Compiles.{compiled_in, spans_of}, declared.compile.ZoneFault.{ZoneFault}, declared.set.FixedTimespanSet.{FixedTimespanSet}}
-use Rattle.tz_zone.specs.declared.compile.ZoneFault.TheVariants as zone_fault
-use Rattle.tz_lookup.specs.declared.database.DatabaseFault.{DatabaseFault, TheVariants.{Schedule, OffsetRange, NoMemory}}
+use Rattle.tz_lookup.specs.{Compiles.{compiled_in, spans_of}, declared.compile.ZoneFault.{ZoneFault}, declared.set.FixedTimespanSet.{FixedTimespanSet}, declared.database.DatabaseFault.{DatabaseFault, TheVariants.{Schedule, OffsetRange, NoMemory}}}
+use Rattle.tz_lookup.specs.declared.compile.ZoneFault.TheVariants as zone_fault
 
 -- the name finds a zone, as a link does that leads to one
 abbrev pub resolves : Table → List ℕ → Bool

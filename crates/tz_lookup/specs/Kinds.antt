@@ -1,7 +1,7 @@
 -- The kinds of spans: pairs of offsets with a name.
 use Rattle.std.specs.{Prelude.{ℕ, Bool, ◌&&◌, List, [], ◌∷◌, ◌++◌, map, slice_index_or, bytes_eq, pos, if◌then◌else◌}, List.{list_any}, Ordering.{int_eq}}
 use Rattle.zone_spans.specs.declared.span.FixedTimespan.{FixedTimespan}
-use Rattle.tz_zone.specs.declared.set.FixedTimespanSet.{FixedTimespanSet}
+use Rattle.tz_lookup.specs.declared.set.FixedTimespanSet.{FixedTimespanSet}
 
 abbrev pub is_same_kind : FixedTimespan → FixedTimespan → Bool
 is_same_kind a b = int_eq a.utc_offset b.utc_offset && (int_eq a.dst_offset b.dst_offset && bytes_eq a.name b.name)

@@ -1,26 +1,19 @@
--- Passed on from the crate below.
-pub use Rattle.tz_zone.specs.Spans
-pub use Rattle.tz_zone.specs.Sets
-pub use Rattle.tz_zone.specs.Search
-pub use Rattle.tz_zone.specs.Faults
-pub use Rattle.tz_zone.specs.InForce
-pub use Rattle.tz_zone.specs.InForceLaws
-pub use Rattle.tz_zone.specs.SecondLaws
-pub use Rattle.tz_zone.specs.RisingLaws
-pub use Rattle.tz_zone.specs.InstantLaws
-pub use Rattle.tz_zone.specs.AnswerLaws
-pub use Rattle.tz_zone.specs.Answers
-pub use Rattle.tz_zone.specs.Results
-pub use Rattle.tz_zone.specs.Scans
-pub use Rattle.tz_zone.specs.Dates
-pub use Rattle.tz_zone.specs.Cursors
-pub use Rattle.tz_zone.specs.InstantsLeft
-pub use Rattle.tz_zone.specs.AllLeft
-pub use Rattle.tz_zone.specs.FixedZones
-pub use Rattle.tz_zone.specs.Zones
-pub use Rattle.tz_zone.specs.Compiles
-pub use Rattle.tz_zone.specs.CompileLaws
 -- Definitions: what public clauses say.
+pub mod Spans
+pub mod Sets
+pub mod Search
+pub mod Faults
+pub mod Answers
+pub mod InForce
+pub mod Results
+pub mod Scans
+pub mod Dates
+pub mod Cursors
+pub mod InstantsLeft
+pub mod AllLeft
+pub mod FixedZones
+pub mod Zones
+pub mod Compiles
 pub mod Databases
 pub mod Kinds
 pub mod KindShown
@@ -33,3 +26,12 @@ pub mod CompactFaults
 pub mod CompactZones
 pub mod Stretches
 pub mod CompactLeft
+-- Laws: what a caller may use.
+pub mod InForceLaws
+pub mod SecondLaws
+pub mod SpanLaws
+pub mod UtcLaws
+pub mod RisingLaws
+pub mod InstantLaws
+pub mod AnswerLaws
+pub mod CompileLaws

@@ -2,8 +2,7 @@
 use Rattle.std.specs.Prelude.{◌≡◌, ℕ, zero, suc, List, filter, length, nat_lt, if◌then◌else◌, ℤ, pos, negsuc, ◌≤ℤ◌, ◌<ℤ◌, int_le}
 use Rattle.civil_base.specs.Instants.{nanos_of}
 use Rattle.zone_spans.specs.Schedules.{Schedule}
-use Rattle.tz_zone.specs.Spans.{Shift, shift_at}
-use Rattle.tz_lookup.specs.declared.stretch.Stretch.{Stretch}
+use Rattle.tz_lookup.specs.{Spans.{Shift, shift_at}, declared.stretch.Stretch.{Stretch}}
 
 -- its total is that of all its seconds, of which there may be none, where each instant has a total
 abbrev pub IsKnown : (ℤ → ℤ) → Stretch → Type 0

@@ -1,7 +1,6 @@
 -- How many entries lie before each year.
 use Rattle.std.specs.Prelude.{◌<◌, ◌≤◌, ℕ, zero, suc, ℤ, pos, ◌-ℤ◌, ◌<ℤ◌, List, length, slice_index_or}
-use Rattle.tz_zone.specs.Spans.{Shift, shift_at, IsCut}
-use Rattle.tz_lookup.specs.Years.{counted_years, year_second}
+use Rattle.tz_lookup.specs.{Spans.{Shift, shift_at, IsCut}, Years.{counted_years, year_second}}
 
 -- the first k shifts lie before a second
 abbrev pub AreBefore : List Shift → ℕ → ℤ → Type 0

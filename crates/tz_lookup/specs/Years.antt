@@ -2,7 +2,7 @@
 use Rattle.std.specs.Prelude.{ℕ, zero, suc, ◌+◌, ◌<◌, ◌≤◌, ℤ, pos, ◌+ℤ◌, ◌*ℤ◌, ◌≤ℤ◌, ◌<ℤ◌, int_le, length, filter, nat_eq, if◌then◌else◌}
 use Rattle.basics.specs.Days.{day}
 use Rattle.zone_spans.specs.Years.{earliest_year, years_limit}
-use Rattle.tz_zone.specs.declared.set.FixedTimespanSet.{FixedTimespanSet}
+use Rattle.tz_lookup.specs.declared.set.FixedTimespanSet.{FixedTimespanSet}
 
 -- the years that are counted: all that a line may be expanded for, and the one after them
 abbrev pub counted_years : ℕ

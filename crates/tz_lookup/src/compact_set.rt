@@ -1,17 +1,19 @@
 //! A zone's spans, kept compactly, with an index by year.
 ghost use Rattle.std.specs.Prelude.{◌≡◌, ◌≤◌, ◌<◌, length, IfOk, unsigned_abs, pos, negsuc, ◌+◌, ◌+ℤ◌, ◌*ℤ◌, ◌-ℤ◌, ◌≤ℤ◌, ◌<ℤ◌, ◌++◌, ◌∷◌, [], OnOk, slice_index_or, map, ◌-◌, ◌*◌, ◌^◌, ℕ, ℤ, ◌↔◌, IsTrue, MatchResult, List};
 ghost use Rattle.zone_spans.specs.{Years.{earliest_year, years_limit}, Entries.{Entry}, Schedules.{instants, total_at}, declared.span.FixedTimespan.{FixedTimespan}};
-ghost use Rattle.tz_lookup.specs.{Years.{counted_years, year_second, HaveBegun, IsWithinYear}, YearSeconds.{counted_end, rules_begin}, YearCounts.{AreBefore, AreYearCounts}, Kinds.{kind_in, with_kind, kinds_of}, Compact.{set_seen, HaveKinds, StandFor}};
-ghost use Rattle.tz_zone.specs.{Sets.{schedule_of, shifts_of, IsAccepted, total_of_span, IsOrderlyZone}, Spans.{IsCut}};
+ghost use Rattle.tz_lookup.specs.{Years.{counted_years, year_second, HaveBegun, IsWithinYear}, YearSeconds.{counted_end, rules_begin}, YearCounts.{AreBefore, AreYearCounts}, Kinds.{kind_in, with_kind, kinds_of}, Compact.{set_seen, HaveKinds, StandFor}, Sets.{schedule_of, shifts_of, IsAccepted, total_of_span, IsOrderlyZone}, Spans.{IsCut}};
 ghost use Rattle.civil_base.specs.{Instants.{seconds_of}, Ranges.{IsOffset}};
 
+use crate::lookups::{SpanTable, span_between};
+use crate::search::Steps;
+use crate::set::{FixedTimespanSet, TzFault};
+use crate::tz::Tz;
 use basics::{Items, Text, date_of, day_number};
 use indexmap::IndexSet;
 use std::alloc::{AllocError, Global};
 use std::marker::Model;
 use std::sync::ledger::Ledger;
-use tz_zone::{FixedTimespan, FixedTimespanSet, SpanTable, Steps, Tz, TzFault, span_between};
-use zone_spans::{EARLIEST_YEAR, YEARS_LIMIT};
+use zone_spans::{EARLIEST_YEAR, FixedTimespan, YEARS_LIMIT};
 
 /// How many years are counted: those from 1800 to 2800, all that a line may be expanded for and the one after them.
 const YEARS: usize = YEARS_LIMIT as usize + 1;
@@ -343,8 +345,7 @@ pub struct CompactSet {
 impl CompactSet {
     ghost use Rattle.std.specs.Prelude.{◌≡◌, ◌+◌, ◌-◌, ◌*◌, ◌^◌, ℤ, ◌≤◌, ◌↔◌, IsTrue, MatchResult, IfOk, length};
     ghost use Rattle.civil_base.specs.Instants.{seconds_of};
-    ghost use Rattle.tz_zone.specs.{Spans.{IsCut}, Sets.{schedule_of, shifts_of, total_of_span, IsAccepted, IsNear, IsOrderlyZone}, Zones.{set_of}};
-    ghost use Rattle.tz_lookup.specs.{CompactShown.{seen}, CompactFaults.{IsCompactFault}, Kinds.{kinds_of}, YearCounts.{before_year}, Years.{changes_in_year}};
+    ghost use Rattle.tz_lookup.specs.{Spans.{IsCut}, Sets.{schedule_of, shifts_of, total_of_span, IsAccepted, IsNear, IsOrderlyZone}, Zones.{set_of}, CompactShown.{seen}, CompactFaults.{IsCompactFault}, Kinds.{kinds_of}, YearCounts.{before_year}, Years.{changes_in_year}};
 
     /// A set, kept compactly.
     ///

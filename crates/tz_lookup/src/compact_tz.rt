@@ -1,17 +1,19 @@
 //! A compact set as a time zone.
 ghost use Rattle.std.specs.Prelude.{◌≡◌, ◌≤◌, length, int_lt, pos};
 ghost use Rattle.zone_spans.specs.{Entries.{total}, Schedules.{total_at}};
-ghost use Rattle.tz_zone.specs.{Cursors.{cursor_left}, InForce.{GivesAt}, Sets.{schedule_of, IsOrderlyZone}};
-ghost use Rattle.tz_lookup.specs.CompactShown.{seen};
+ghost use Rattle.tz_lookup.specs.{Cursors.{cursor_left}, InForce.{GivesAt}, Sets.{schedule_of, IsOrderlyZone}, CompactShown.{seen}};
 
 use crate::compact_set::CompactSet;
+use crate::instants::InstantsIn;
+use crate::lookups::{local_spans, local_spans_counted};
+use crate::search::Steps;
+use crate::time_zone::{
+    AllInstants, OffsetResult, PrimitiveDateTimeExt, SpanCursor, SpanScan, TimeZone,
+};
+use crate::tz::TzOffset;
 use civil_base::{OffsetDateTime, PlainDateTime};
 use std::marker::Brand;
 use std::sync::ledger::{Blank, Ledger};
-use tz_zone::{
-    AllInstants, InstantsIn, OffsetResult, PrimitiveDateTimeExt, SpanCursor, SpanScan, Steps,
-    TimeZone, TzOffset, local_spans, local_spans_counted,
-};
 
 /// The zone of a compact set, which it borrows.
 #[derive(Clone, Copy, Debug, Drop)]
@@ -29,8 +31,7 @@ impl<'a> CompactTz<'a> {
     ghost use Rattle.std.specs.Prelude.{◌≡◌, ◌↔◌, ◌+◌, ◌-◌, ◌*◌, ◌^◌, ◌<◌, ◌≤◌, ℤ, IsTrue, length, map, take, pos};
     ghost use Rattle.civil_base.specs.{DateTimes.{instant, local_of, offset_of}, Instants.{instant_at, seconds_of}};
     ghost use Rattle.zone_spans.specs.Schedules.{total_at};
-    ghost use Rattle.tz_zone.specs.{Answers.{listed, EachOf}, InForce.{all_in_force, shown_of, totals_at, AreInstants, GivesAt}, Sets.{schedule_of, shifts_of, IsNear, IsOrderlyZone}, Zones.{span_shown, total_shown, IsGivenFor}};
-    ghost use Rattle.tz_lookup.specs.{CompactLeft.{compact_left}, CompactShown.{seen}, CompactZones.{compact_of}, Years.{changes_in_year}};
+    ghost use Rattle.tz_lookup.specs.{Answers.{listed, EachOf}, InForce.{all_in_force, shown_of, totals_at, AreInstants, GivesAt}, Sets.{schedule_of, shifts_of, IsNear, IsOrderlyZone}, Zones.{span_shown, total_shown, IsGivenFor}, CompactLeft.{compact_left}, CompactShown.{seen}, CompactZones.{compact_of}, Years.{changes_in_year}};
 
     /// The zone of a compact set.
     pub fn new(set: &'a CompactSet) -> CompactTz<'a>

@@ -2,16 +2,19 @@
 ghost use Rattle.std.specs.{Prelude.{◌≡◌, ℕ, List, map as each, filter, reverse, is_some, option_map, true, IfOk, IfErr, OnOk, IsTrue, ◌↔◌}, BTreeSet.{insert_key}, List.{find, list_all}, Str.{bytes_eq}};
 ghost use Rattle.basics.specs.{InOrder.{in_order as sorted_names}, InOrderLaws.{RisesStrictly}, Keyed.{text_cmp}};
 ghost use Rattle.zone_table.specs.BoundedTables.{IsBoundedTable};
-ghost use Rattle.tz_zone.specs.{Compiles.{compiled_in}, Sets.{schedule_of, IsAccepted, IsOrderlyZone}, Zones.{set_of}};
-ghost use Rattle.tz_lookup.specs.Databases.{names_of, resolves, found_in, found_as, first_refused, zone_refusal, IsDatabaseFault, has_part, name_shown};
+ghost use Rattle.tz_lookup.specs.{Compiles.{compiled_in}, Sets.{schedule_of, IsAccepted, IsOrderlyZone}, Zones.{set_of}, Databases.{names_of, resolves, found_in, found_as, first_refused, zone_refusal, IsDatabaseFault, has_part, name_shown}};
 
+use crate::compile::{ZoneFault, compile_zone};
+use crate::set::{FixedTimespanSet, is_orderly};
+use crate::time_zone::TimeZone;
+use crate::tz::Tz;
 use basics::{Items, Text};
 use std::alloc::{AllocError, Global};
 use std::cmp::Ordering;
 use std::collections::BTreeSet;
 use std::marker::Model;
 use std::slice;
-use tz_zone::{FixedTimespanSet, SpanFault, TimeZone, Tz, ZoneFault, compile_zone, is_orderly};
+use zone_spans::SpanFault;
 use zone_table::Table;
 
 /// Why a table has no database, with the name that is the first in byte order to be refused.
@@ -77,7 +80,7 @@ pub struct Database {
 
 impl Model for Database {
     ghost use Rattle.std.specs.Prelude.{List, map as each};
-    ghost use Rattle.tz_zone.specs.declared.set.FixedTimespanSet.{FixedTimespanSet};
+    ghost use Rattle.tz_lookup.specs.declared.set.FixedTimespanSet.{FixedTimespanSet};
 
     ghost Value = { List FixedTimespanSet };
 
@@ -156,7 +159,7 @@ pub struct DatabaseIter<'a> {
 
 impl<'a> Model for DatabaseIter<'a> {
     ghost use Rattle.std.specs.{Prelude.{List, map as each}, Slice.Iter.{iter_rest}};
-    ghost use Rattle.tz_zone.specs.declared.set.FixedTimespanSet.{FixedTimespanSet};
+    ghost use Rattle.tz_lookup.specs.declared.set.FixedTimespanSet.{FixedTimespanSet};
 
     ghost Value = { List FixedTimespanSet };
 
@@ -167,7 +170,7 @@ impl<'a> Iterator for DatabaseIter<'a> {
     type Item = Tz<'a>;
 
     ghost use Rattle.std.specs.Iterator.{YieldsFirstBy, item_count};
-    ghost use Rattle.tz_zone.specs.Zones.{set_of};
+    ghost use Rattle.tz_lookup.specs.Zones.{set_of};
 
     ghost next_gives = { YieldsFirstBy set_of (λ left. left) };
 

@@ -1,13 +1,13 @@
 //! The total offset at a second, and how long it is in force: what a cursor over many seconds remembers.
 ghost use Rattle.std.specs.Prelude.{◌≡◌, ◌<◌, ◌≤◌, ◌≤ℤ◌, ◌<ℤ◌, length, ℕ, ℤ};
 ghost use Rattle.zone_spans.specs.Schedules.{total_at};
-ghost use Rattle.tz_zone.specs.{Sets.{schedule_of, shifts_of, IsAccepted}, Spans.{shift_at, IsCut}};
-ghost use Rattle.tz_lookup.specs.{CompactShown.{seen}, Stretches.{stretch_begin, begin_second, stretch_end, least_second, IsStretch}};
+ghost use Rattle.tz_lookup.specs.{Sets.{schedule_of, shifts_of, IsAccepted}, Spans.{shift_at, IsCut}, CompactShown.{seen}, Stretches.{stretch_begin, begin_second, stretch_end, least_second, IsStretch}};
 
 use crate::compact_set::CompactSet;
+use crate::lookups::{SpanTable, offset_of};
+use crate::search::Steps;
 use std::marker::Brand;
 use std::sync::ledger::{Blank, Ledger};
-use tz_zone::{SpanTable, Steps, offset_of};
 
 /// Seconds from 1970-01-01 00:00:00 UTC throughout which one total offset is in force.
 #[derive(Clone, Copy, Debug, PartialEq, Eq)]

@@ -1,8 +1,7 @@
 -- A zone of two yearly rules beside the POSIX value that says the same, whichever of its start and its end comes first.
 use Rattle.std.proofs.{Common.{◌≡◌, ℕ, ◌+◌, ◌-◌, ◌<◌, inl, inr, ⊎_elim, true, false, cond, ◌&&◌, List, [], ◌∷◌, None, Option, Some, is_some, unwrap_or, Result, Ok, refl, sym, ap, ◌∙◌, subst, arith, ℤ, pos, ◌+ℤ◌, ◌-ℤ◌, ◌*ℤ◌, ◌<ℤ◌, int_eq}, lemmas.Int.{ints}}
 use Rattle.basics.specs.{Days.{IsCountedYear}, SignedLaws.{signed}}
-use Rattle.zone_values.specs.declared.{time.TimeType.TheVariants.{Wall}, year.Year.TheVariants.{Maximum, Number}}
-use Rattle.zone_table.specs.{Moments.{has_last_year, is_number, moment}, declared.rule.RuleInfo.{RuleInfo}, declared.zone.ZoneInfo.{ZoneInfo}}
+use Rattle.zone_table.specs.{declared.{time.TimeType.TheVariants.{Wall}, year.Year.TheVariants.{Maximum, Number}}, Moments.{has_last_year, is_number, moment}, declared.rule.RuleInfo.{RuleInfo}, declared.zone.ZoneInfo.{ZoneInfo}}
 use Rattle.zone_spans.specs.{Compiled.{compiled, compiled_over, set_of_lines, unless}, Faults.{schedule_fault}, Lines.{Line, Rulesets, is_known, is_ruled, rules_named, zone_lines}, Schedules.{schedule_of_lines, totals_told, total_at, totals_of}}
 use Rattle.zone_spans.specs.declared.{fault.SpanFault.{SpanFault}, span.FixedTimespanSet.{FixedTimespanSet}}
 use Rattle.tz_posix.specs.{TwoRules.{AreBoth, HasTwoRules, written, year_from}, Agreement.{IsChange, IsInRuleYears, IsRuleYear, IsSameTime, RuledValue, SaysTheSame, TwoRuleZone, end_in, first_year, start_in, value_total}}

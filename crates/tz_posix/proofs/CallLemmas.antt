@@ -2,10 +2,9 @@
 use Rattle.std.proofs.{Common.{◌≡◌, ⊎_elim, true, false, cond, List, [], ◌∷◌, Option, Some, None, IfSome, Ok, refl, sym, ap, ◌∙◌, subst, arith, ℤ, pos, neg_ℤ, int_eq}, lemmas.Bool.{and_from}, lemmas.Int.{ints}}
 use Rattle.basics.specs.{ComparisonLaws.{le_pass}, SignedLaws.{signed}}
 use Rattle.civil_base.specs.Instants.{seconds_of}
-use Rattle.zone_values.specs.declared.{day.DaySpec.{DaySpec}, month.Month.{Month}, weekday.Weekday.{Weekday}}
+use Rattle.zone_table.specs.declared.{day.DaySpec.{DaySpec}, month.Month.{Month}, weekday.Weekday.{Weekday}}
 use Rattle.zone_spans.specs.{Compiled.{compiled}, Lines.{Rulesets}, Schedules.{schedule_of_lines, totals_told, total_at, totals_of}}
-use Rattle.tz_lookup.specs.{Compiles.{spans_of}, Sets.{schedule_of as schedule_in}}
-use Rattle.tz_zone.specs.declared.set.FixedTimespanSet.{FixedTimespanSet}
+use Rattle.tz_lookup.specs.{Compiles.{spans_of}, Sets.{schedule_of as schedule_in}, declared.set.FixedTimespanSet.{FixedTimespanSet}}
 use Rattle.tz_posix.specs.{Agreement.{IsCovered, IsInRuleYears, IsSameDay, RuledValue, SaysTheSame, TwoRuleZone, from_first, from_eighth, from_fifteenth, from_twenty_second, last_of_month, first_year, value_of, value_total}, Days.{day_refusal}}
 use Rattle.tz_posix.specs.{InForce.{is_year, rule_refusal, year_at, yearly_time}, PosixZones.{Given, Gives, GivesTotal, PosixZone, ruled, posix_refusal}, Ranges.{first_some}, Resolved.{resolved}, Seconds.{east_of}, declared.date.Date.{Date}}
 use Rattle.tz_posix.specs.declared.error.Error.TheVariants.{ComponentRange}

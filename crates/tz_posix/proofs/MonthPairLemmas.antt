@@ -2,8 +2,7 @@
 use Rattle.std.proofs.{Common.{◌≡◌, ℕ, suc, ◌+◌, ◌-◌, ◌<◌, ◌≤◌, ◌⊎◌, inl, inr, ⊎_elim, sym, ap, ◌∙◌, subst, arith, ℤ, pos, ◌+ℤ◌, ◌-ℤ◌, ◌*ℤ◌, ◌≤ℤ◌, ◌<ℤ◌, unsigned_abs}, lemmas.Int.{ints, by_lt_z}}
 use Rattle.basics.specs.{DateLaws.{day-into_year, place_of}, Days.{day, days_in_year, days_into_year, days_through, IsCountedYear}}
 use Rattle.basics.specs.{MonthLaws.{days_in_month-bounds, days_in_month-december, days_in_year-bounds, days_through-all, days_through-rise, days_through-step, days_through-two}, SignedLaws.{signed}, YearLaws.{cycle_days-suc, day-cycle}}
-use Rattle.zone_values.specs.{Days.{named_day}, Months.{month_number}, declared.time.TimeType.TheVariants.{Wall}, declared.weekday.Weekday.{Weekday}}
-use Rattle.zone_table.specs.declared.rule.RuleInfo.{RuleInfo}
+use Rattle.zone_table.specs.{Days.{named_day}, Months.{month_number}, declared.time.TimeType.TheVariants.{Wall}, declared.weekday.Weekday.{Weekday}, declared.rule.RuleInfo.{RuleInfo}}
 use Rattle.tz_posix.specs.{DayLaws.{days_into_year-is}, TwoRules.{written}, Agreement.{IsChange, IsInRuleYears, IsNorthern, IsRuleYear, IsSameDay, IsSouthern, IsTimeOfDay, TwoRuleZone, end_in, start_in}, declared.date.Date.{Date}}
 use Rattle.tz_posix.proofs.{TwoRuleFiringLemmas.{wall_moment}, NamedDayLemmas.{is_named}, StandardYearLemmas.{IsNear, near-counted, near_year, year_starts-rise}}
 

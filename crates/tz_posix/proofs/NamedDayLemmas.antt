@@ -2,9 +2,7 @@
 use Rattle.std.proofs.{Common.{◌≡◌, ℕ, suc, ◌+◌, ◌-◌, ◌%◌, ◌<◌, ◌≤◌, refl, ap, ◌∙◌, arith, nat_eq, ℤ, pos, ◌+ℤ◌, ◌-ℤ◌, ◌<ℤ◌, sym, unsigned_abs, true, false, not, ◌&&◌}, lemmas.Bool.{and_from}, Math.Bool.{and-false}}
 use Rattle.basics.specs.{Dates.{last_with}, DateLaws.{day-between, day-last_of_year, place_of}, Days.{day, days_in_month, IsCountedYear, IsDate}, MonthLaws.{days_in_month-bounds, days_through-two}, ComparisonLaws.{le_pass, lt_pass}, SignedLaws.{signed}}
 use Rattle.basics.specs.{WeekdayLaws.{day-from_first, last_with_weekday, weekday_of-small, weekday_in_month}, Weekdays.{weekday_of}, YearLaws.{cycle_days-suc, day-cycle}}
-use Rattle.zone_values.specs.{Days.{first_from, is_in_year, named_day}, Months.{month_number}, WeekdayLaws.{first_from-is, weekday_number-small}, Weekdays.{weekday_number}, declared.day.DaySpec.{DaySpec}, declared.month.Month.{Month}}
-use Rattle.zone_values.specs.declared.{month.Month.TheVariants.{January, February, March, April, May, June, July, August, September, October, November, December}, weekday.Weekday.{Weekday}}
-use Rattle.zone_table.specs.{Moments.{applies_to_year}, declared.rule.RuleInfo.{RuleInfo}}
+use Rattle.zone_table.specs.{Days.{first_from, is_in_year, named_day}, Months.{month_number}, WeekdayLaws.{first_from-is, weekday_number-small}, Weekdays.{weekday_number}, declared.day.DaySpec.{DaySpec}, declared.month.Month.{Month}, declared.{month.Month.TheVariants.{January, February, March, April, May, June, July, August, September, October, November, December}, weekday.Weekday.{Weekday}}, Moments.{applies_to_year}, declared.rule.RuleInfo.{RuleInfo}}
 use Rattle.zone_spans.specs.Faults.{is_outside}
 use Rattle.tz_posix.specs.{Agreement.{IsSameDay, from_first, from_eighth, from_fifteenth, from_twenty_second, last_of_month}, Days.{nth_weekday, rule_day}, declared.date.Date.{Date}}
 

@@ -1,7 +1,6 @@
 -- A string gives an instant one total.
 use Rattle.std.proofs.{Common.{◌≡◌, ℕ, ◌<◌, Bool, true, List, Option, None, is_some, ℤ, pos, int_lt, inl, inr, sym, ap, ◌∙◌, arith}, lemmas.Bool.{cases_lt}, lemmas.Int.{ints}}
-use Rattle.tz_lookup.specs.{InForce.{GivesAt}, Sets.{span_in}, Spans.{IsCut, Shift}}
-use Rattle.tz_zone.specs.declared.set.FixedTimespanSet.{FixedTimespanSet}
+use Rattle.tz_lookup.specs.{InForce.{GivesAt}, Sets.{span_in}, Spans.{IsCut, Shift}, declared.set.FixedTimespanSet.{FixedTimespanSet}}
 use Rattle.tz_posix.specs.PosixZones.{Given, Gives, GivesTotal, PosixZone, either, borrowed, fixed, ruled, zone}
 
 -- no span ends before another begins at a second that both are in force at

@@ -2,9 +2,7 @@
 use Rattle.std.proofs.Common.{◌≡◌, ℕ, List, [], ◌∷◌, Option, inl, inr, refl, sym, ap, ◌∙◌, ◌⊎◌, arith, ℤ, pos, neg_ℤ, ◌+ℤ◌, ◌-ℤ◌, ◌*ℤ◌, ◌≤ℤ◌, ◌<ℤ◌}
 use Rattle.basics.specs.{Numbers.{value_in}, Dates.{last_with}, Days.{is_leap, days_in_year, days_in_month, days_after_zero, year_start, days_through, days_into_year, day}, SignedLaws.{signed}, Weekdays.{weekday_of}}
 use Rattle.civil_base.specs.Instants.{seconds_of}
-use Rattle.zone_values.specs.{Days.{first_from, named_day}, Months.{month_number}, declared.day.DaySpec.{DaySpec}, declared.day.DaySpec.TheVariants.{FirstOnOrAfter, Last}, declared.month.Month.{Month}}
-use Rattle.zone_values.specs.declared.{month.Month.TheVariants.{March, April, October, November}, weekday.Weekday.TheVariants.{Sunday}}
-use Rattle.zone_table.specs.declared.zone.ZoneInfo.{ZoneInfo}
+use Rattle.zone_table.specs.{Days.{first_from, named_day}, Months.{month_number}, declared.day.DaySpec.{DaySpec}, declared.day.DaySpec.TheVariants.{FirstOnOrAfter, Last}, declared.month.Month.{Month}, declared.{month.Month.TheVariants.{March, April, October, November}, weekday.Weekday.TheVariants.{Sunday}}, declared.zone.ZoneInfo.{ZoneInfo}}
 use Rattle.zone_spans.specs.{Lines.{Rulesets}, Schedules.{schedule_of_lines, total_at}}
 use Rattle.tz_posix.proofs.{TwoRuleFiringLemmas.{wall_moment}, NorthernLemmas.{northern_agrees}, SouthernLemmas.{southern_agrees}}
 use Rattle.tz_posix.proofs.MonthPairLemmas.{AreInnerRules, IsInner, end_inside, northern_apart, northern_order, southern_apart, southern_order, start_inside}

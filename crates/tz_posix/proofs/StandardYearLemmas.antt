@@ -1,8 +1,7 @@
 -- The years of seconds by clocks of standard time, and the years in which rules from a year on apply.
 use Rattle.std.{proofs.Common.{◌≡◌, ℕ, ◌+◌, ◌-◌, ◌<◌, ◌⊎◌, inl, inr, Bool, true, false, cond, ◌&&◌, Some, unwrap_or, refl, ap, ◌∙◌, arith, ℤ, pos, ◌+ℤ◌, ◌-ℤ◌, ◌≤ℤ◌, ◌<ℤ◌, int_le, int_lt, unsigned_abs}, specs.Int.{int_div_euclid}, proofs.lemmas.Int.{by_lt_z}}
 use Rattle.basics.specs.{Dates.{year_of}, DateLaws.{day-between, day-range, year_of-is}, Days.{day, IsCountedYear}, ComparisonLaws.{le_pass, le_fail, lt_from_pass, lt_from_fail}, SignedLaws.{signed, floored, natural}}
-use Rattle.zone_values.specs.declared.year.Year.TheVariants.{Maximum, Number}
-use Rattle.zone_table.specs.{Moments.{applies_to_year, last_year, is_at_most, is_at_least}, declared.rule.RuleInfo.{RuleInfo}}
+use Rattle.zone_table.specs.{declared.year.Year.TheVariants.{Maximum, Number}, Moments.{applies_to_year, last_year, is_at_most, is_at_least}, declared.rule.RuleInfo.{RuleInfo}}
 use Rattle.tz_posix.specs.{TwoRules.{year_from}, Agreement.{first_year, IsInRuleYears, IsRuleYear}, InForce.{year_at}}
 use Rattle.civil_base.specs.DayRangeLaws.{new_year}
 

@@ -1,7 +1,6 @@
 -- What a line of two yearly rules fires: f and then g in each year, whatever saving the year begins with.
 use Rattle.std.proofs.{Common.{◌≡◌, ℕ, zero, suc, ◌+◌, ◌<◌, ◌≤◌, ⊎_elim, true, false, cond, List, [], ◌∷◌, ◌++◌, length, reverse, filter, None, ℤ, pos, ◌+ℤ◌, ◌-ℤ◌, ◌<ℤ◌, int_lt, refl, sym, ap, ◌∙◌, arith}, lemmas.Int.{ints}, lemmas.List.{reverse-append}}
-use Rattle.zone_values.specs.declared.time.TimeType.TheVariants.{Wall}
-use Rattle.zone_table.specs.{Moments.{applies_to_year, instant_of, moment}, declared.rule.RuleInfo.{RuleInfo}}
+use Rattle.zone_table.specs.{declared.time.TimeType.TheVariants.{Wall}, Moments.{applies_to_year, instant_of, moment}, declared.rule.RuleInfo.{RuleInfo}}
 use Rattle.zone_spans.specs.{Firings.{Firing, Fired, earliest, fired, firings_of_years, is_earlier, line_firings, line_firings_over, year_firings, years_expanded, years_over}, Lines.{Line, fixed_saving}}
 use Rattle.tz_posix.specs.TwoRules.{AreBoth, HasTwoRules, AreInTurn, first_at, saving_before, second_at, written, year_from}
 

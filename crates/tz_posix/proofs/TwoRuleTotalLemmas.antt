@@ -8,7 +8,7 @@ use Rattle.zone_table.specs.declared.rule.RuleInfo.{RuleInfo}
 use Rattle.zone_spans.specs.{Collapse.{is_same_span, collapsed, kept_of, without_first}, Compiled.{set_of, set_of_lines, set_of_lines_over}, Entries.{Entry, total, entry_of, first_span, fixed_span, is_standard, sorted_entries}, Firings.{Firing}, Lines.{Line}}
 use Rattle.zone_spans.specs.{Schedules.{last_total, total_at, totals_of}, declared.span.FixedTimespan.{FixedTimespan}, declared.span.FixedTimespanSet.{FixedTimespanSet}}
 use Rattle.tz_posix.{specs.TwoRules.{HasTwoRules, AreInTurn, IsInYear, first_at, saving_before, saving_in, second_at}, proofs.TwoRuleEntryLemmas.{all_kept, entries, map-reverse, sorted_is}, proofs.TwoRuleFiringLemmas.{latest}}
-use Rattle.tz_zone.specs.SecondLaws.{same_test}
+use Rattle.tz_lookup.specs.SecondLaws.{same_test}
 
 -- ---- totals by the second
 

@@ -1,8 +1,7 @@
 -- The words of the agreement on cases that are known from outside; times are those of `date -u -d`.
 use Rattle.std.proofs.Common.{◌≡◌, refl, arith, [], ◌∷◌, map, None, ℤ, pos, neg_ℤ, negsuc}
 use Rattle.basics.specs.{Dates.{last_with}, Days.{is_leap, days_in_year, days_in_month, days_after_zero, year_start, days_through, days_into_year, day}, SignedLaws.{signed}, Weekdays.{weekday_of}}
-use Rattle.zone_values.specs.{Days.{first_from, named_day}, declared.day.DaySpec.TheVariants.{FirstOnOrAfter, Last}, declared.month.Month.TheVariants.{March, April, October, November}, declared.weekday.Weekday.TheVariants.{Sunday, Thursday, Saturday}}
-use Rattle.zone_table.specs.{Moments.{instant_of, moment}, declared.zone.Format.{Format}, declared.zone.Saving.TheVariants.{Multiple}, declared.zone.ZoneInfo.{ZoneInfo}}
+use Rattle.zone_table.specs.{Days.{first_from, named_day}, declared.day.DaySpec.TheVariants.{FirstOnOrAfter, Last}, declared.month.Month.TheVariants.{March, April, October, November}, declared.weekday.Weekday.TheVariants.{Sunday, Thursday, Saturday}, Moments.{instant_of, moment}, declared.zone.Format.{Format}, declared.zone.Saving.TheVariants.{Multiple}, declared.zone.ZoneInfo.{ZoneInfo}}
 use Rattle.tz_posix.specs.{Agreement.{IsInRuleYears, IsRuleYear, IsSameDay, IsTimeOfDay, end_in, first_year, start_in, from_first, from_eighth, from_fifteenth, from_twenty_second, last_of_month}, RealPairs.{lord_howe_rules, moldova_rules, us_rules}}
 use Rattle.tz_posix.specs.declared.date.Date.TheVariants.{M}
 

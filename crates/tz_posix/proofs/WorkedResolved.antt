@@ -1,6 +1,6 @@
 -- What values stand for, over worked databases.
 use Rattle.std.proofs.Common.{◌≡◌, refl, ℕ, true, false, List, [], ◌∷◌, map, Option, Some, None, Result, Ok, Err, codes, ℤ, pos, neg_ℤ}
-use Rattle.tz_zone.specs.declared.set.FixedTimespanSet.{FixedTimespanSet}
+use Rattle.tz_lookup.specs.declared.set.FixedTimespanSet.{FixedTimespanSet}
 use Rattle.tz_posix.specs.{InForce.{YearlyTime}, PosixShown.{IsAtOffset}, PosixZones.{Named, PosixZone, zone, fixed, ruled, borrowed, iana_of}, Resolved.{resolved}, Seconds.{offset_seconds, time_seconds}, Values.{short, expanded}}
 use Rattle.tz_posix.specs.declared.{date.Date.TheVariants.{J}, error.Error.{Error}, error.Error.TheVariants.{ComponentRange}, time.Offset.{Offset}, time.Time.{Time}, values.Rule.{Rule}}
 

@@ -1,9 +1,7 @@
 -- A zone of two yearly rules, and the POSIX value that says the same.
 use Rattle.std.specs.{Prelude.{◌≡◌, ℕ, ◌⊎◌, List, Some, ℤ, pos, ◌+ℤ◌, ◌*ℤ◌, ◌≤ℤ◌, ◌<ℤ◌}, Int.{int_max}}
 use Rattle.basics.specs.Days.{day}
-use Rattle.zone_values.specs.{Months.{month_number}, Weekdays.{weekday_number}, declared.day.DaySpec.{DaySpec}, declared.day.DaySpec.TheVariants.{Last, FirstOnOrAfter}, declared.month.Month.{Month}, declared.time.TimeType.TheVariants.{Wall}}
-use Rattle.zone_values.specs.declared.{weekday.Weekday.{Weekday}, year.Year.TheVariants.{Maximum, Number}}
-use Rattle.zone_table.specs.{Moments.{moment}, declared.rule.RuleInfo.{RuleInfo}, declared.zone.Saving.TheVariants.{Multiple}, declared.zone.ZoneInfo.{ZoneInfo}}
+use Rattle.zone_table.specs.{Months.{month_number}, Weekdays.{weekday_number}, declared.day.DaySpec.{DaySpec}, declared.day.DaySpec.TheVariants.{Last, FirstOnOrAfter}, declared.month.Month.{Month}, declared.time.TimeType.TheVariants.{Wall}, declared.{weekday.Weekday.{Weekday}, year.Year.TheVariants.{Maximum, Number}}, Moments.{moment}, declared.rule.RuleInfo.{RuleInfo}, declared.zone.Saving.TheVariants.{Multiple}, declared.zone.ZoneInfo.{ZoneInfo}}
 use Rattle.zone_spans.specs.{Lines.{Rulesets}, Years.{earliest_year, latest_year}}
 use Rattle.tz_posix.specs.{TwoRules.{AreBoth}, InForce.{YearlyTime, posix_total, yearly_time}, Seconds.{IsWritten, east_of}, Values.{TzValue, expanded}, declared.date.Date.{Date}, declared.date.Date.TheVariants.{M}, declared.time.Offset.{Offset}}
 use Rattle.tz_posix.specs.declared.{time.Time.{Time}, values.Rule.{Rule}}

@@ -1,7 +1,6 @@
 -- What is seen of the offsets that texts give.
 use Rattle.std.specs.Prelude.{int_lt, pos}
-use Rattle.tz_lookup.specs.Zones.{span_shown, total_shown}
-use Rattle.tz_zone.specs.declared.tz.TzOffset.{TzOffset}
+use Rattle.tz_lookup.specs.{Zones.{span_shown, total_shown}, declared.tz.TzOffset.{TzOffset}}
 use Rattle.tz_posix.specs.{PosixZones.{Given}, declared.offset.PosixTzOffset.{PosixTzOffset}, declared.offset.Source.{Source}, declared.offset.Source.TheVariants.{Zone, Text}}
 
 -- the offset of a zone's span

@@ -1,6 +1,6 @@
 -- What a text is parsed as over the zones of a database, and why it is refused.
 use Rattle.std.specs.Prelude.{◌≡◌, ℕ, List, Some, None, Result, Ok, Err}
-use Rattle.tz_zone.specs.declared.set.FixedTimespanSet.{FixedTimespanSet}
+use Rattle.tz_lookup.specs.declared.set.FixedTimespanSet.{FixedTimespanSet}
 use Rattle.tz_posix.specs.{PosixShown.{posix_of}, PosixZones.{PosixZone}, Ranges.{posix_range}, Resolved.{resolved}, Spells.{Spells}, Values.{TzValue}, declared.error.ParseError.{ParseError}, declared.error.ParseError.TheVariants.{Grammar, UnknownName, Range}}
 use Rattle.tz_posix.specs.declared.posix.PosixTz.{PosixTz}
 

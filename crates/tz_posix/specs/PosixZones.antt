@@ -2,8 +2,7 @@
 use Rattle.std.specs.Prelude.{◌≡◌, Bool, false, List, ℕ, Option, None, Some, if◌then◌else◌, ℤ}
 use Rattle.civil_base.specs.Instants.{seconds_of}
 use Rattle.zone_spans.specs.Schedules.{total_at}
-use Rattle.tz_lookup.specs.{InForce.{GivesAt}, Sets.{schedule_of}}
-use Rattle.tz_zone.specs.declared.set.FixedTimespanSet.{FixedTimespanSet}
+use Rattle.tz_lookup.specs.{InForce.{GivesAt}, Sets.{schedule_of}, declared.set.FixedTimespanSet.{FixedTimespanSet}}
 use Rattle.tz_posix.specs.{InForce.{YearlyTime, is_saving, posix_total, rule_refusal}, declared.error.Error.{Error}}
 
 -- an abbreviation, and the seconds east of UTC

@@ -1,8 +1,6 @@
 -- Three pairs of yearly rules of the tz database, each as a ruleset of these two rules alone, and the string that says the same.
 use Rattle.std.specs.Prelude.{◌≡◌, ℕ, true, false, List, Option, Some, None, codes, ℤ, pos}
-use Rattle.zone_values.specs.declared.{day.DaySpec.{DaySpec}, day.DaySpec.TheVariants.{FirstOnOrAfter, Last}, month.Month.{Month}, month.Month.TheVariants.{March, April, October, November}, time.TimeType.TheVariants.{Wall}}
-use Rattle.zone_values.specs.declared.{weekday.Weekday.TheVariants.{Sunday}, year.Year.TheVariants.{Maximum, Number}}
-use Rattle.zone_table.specs.declared.{rule.RuleInfo.{RuleInfo}, zone.Saving.TheVariants.{Multiple}, zone.ZoneInfo.{ZoneInfo}}
+use Rattle.zone_table.specs.declared.{day.DaySpec.{DaySpec}, day.DaySpec.TheVariants.{FirstOnOrAfter, Last}, month.Month.{Month}, month.Month.TheVariants.{March, April, October, November}, time.TimeType.TheVariants.{Wall}, weekday.Weekday.TheVariants.{Sunday}, year.Year.TheVariants.{Maximum, Number}, rule.RuleInfo.{RuleInfo}, zone.Saving.TheVariants.{Multiple}, zone.ZoneInfo.{ZoneInfo}}
 use Rattle.zone_spans.specs.Lines.{Rulesets}
 use Rattle.tz_posix.specs.{TwoRules.{AreBoth}, Agreement.{RuledValue, TwoRuleZone}, declared.date.Date.TheVariants.{M}, declared.time.Offset.{Offset}}
 

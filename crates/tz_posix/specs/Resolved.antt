@@ -1,7 +1,6 @@
 -- What a value stands for over the zones of a database, in byte order of their names.
 use Rattle.std.specs.{Prelude.{ℕ, List, Option, Some, None, Result, Ok, Err, codes, ℤ, pos, ◌+ℤ◌}, List.{find}, Option.{option_map_or}, Str.{bytes_eq}}
-use Rattle.tz_lookup.specs.Databases.{has_part}
-use Rattle.tz_zone.specs.declared.set.FixedTimespanSet.{FixedTimespanSet}
+use Rattle.tz_lookup.specs.{Databases.{has_part}, declared.set.FixedTimespanSet.{FixedTimespanSet}}
 use Rattle.tz_posix.specs.{InForce.{yearly_time}, PosixZones.{Named, PosixZone, zone, fixed, ruled, borrowed}, Seconds.{east_of}, Values.{StdPart, DstPart, TzValue, short, expanded}, declared.time.Time.{Time}, declared.values.Rule.{Rule}}
 
 abbrev pub standard_of : StdPart → Named

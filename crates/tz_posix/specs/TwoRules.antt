@@ -1,7 +1,6 @@
 -- A line of two yearly rules f and g: when each fires, where f comes before g in each year, and the saving then in force.
 use Rattle.std.specs.{Prelude.{◌≡◌, ℕ, zero, suc, ◌+◌, ◌<◌, ◌⊎◌, false, true, List, [], ◌∷◌, None, Ok, if◌then◌else◌, ℤ, pos, ◌+ℤ◌, ◌*ℤ◌, ◌≤ℤ◌, ◌<ℤ◌, int_le}, Ordering.{int_eq}}
-use Rattle.zone_values.specs.{Days.{named_day}, declared.time.TimeType.TheVariants.{Wall}}
-use Rattle.zone_table.specs.{Moments.{moment, applies_to_year}, declared.rule.RuleInfo.{RuleInfo}, declared.zone.ZoneInfo.{ZoneInfo}}
+use Rattle.zone_table.specs.{Days.{named_day}, declared.time.TimeType.TheVariants.{Wall}, Moments.{moment, applies_to_year}, declared.rule.RuleInfo.{RuleInfo}, declared.zone.ZoneInfo.{ZoneInfo}}
 use Rattle.zone_spans.specs.{Compiled.{compiled}, Firings.{Firing}, Lines.{Line, Rulesets, is_ruled}, Years.{earliest_year, most_years}, declared.span.FixedTimespanSet.{FixedTimespanSet}}
 
 -- the two rules, listed in either order

@@ -6,8 +6,7 @@ ghost use Rattle.zone_spans.specs.{Compiled.{compiled}, Lines.{Rulesets}, Years.
 ghost use Rattle.tz_posix.specs.{TwoRules.{IsCompiled}, Agreement.{IsCovered, IsFromFirstStart, IsInRuleYears, IsNorthern, IsSouthern, RuledValue, SaysTheSame, TwoRuleZone, first_year, value_of, value_total}, PosixShown.{posix_of}};
 ghost use Rattle.tz_posix.specs.{PosixZones.{GivesTotal, posix_refusal}, RealPairs.{IsRuledBy, lord_howe_rules, lord_howe_text, lord_howe_value, moldova_rules, moldova_text, moldova_value, new_york_text, new_york_value, us_rules}, Resolved.{resolved}};
 ghost use Rattle.tz_posix.specs.{Spells.{Spells, RunsAreLongest, day_times}, Values.{TzValue}};
-ghost use Rattle.tz_lookup.specs.{Compiles.{spans_of}, Sets.{schedule_of as schedule_in}, Zones.{set_of}};
-ghost use Rattle.tz_zone.specs.declared.set.FixedTimespanSet.{FixedTimespanSet};
+ghost use Rattle.tz_lookup.specs.{Compiles.{spans_of}, Sets.{schedule_of as schedule_in}, Zones.{set_of}, declared.set.FixedTimespanSet.{FixedTimespanSet}};
 
 use crate::posix::PosixTz;
 use civil_base::{OffsetDateTime, UtcOffset};

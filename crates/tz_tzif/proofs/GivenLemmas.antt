@@ -3,7 +3,7 @@ use Rattle.std.proofs.{Common.{◌≡◌, Bool, true, false, cond, List, [], ◌
 use Rattle.std.specs.{Prelude.{Contains}, Ordering.{int_eq}, List.{filter}}
 use Rattle.basics.specs.ComparisonLaws.{eq_from_pass, eq_pass}
 use Rattle.civil_base.specs.Instants.{instant_at}
-use Rattle.tz_zone.specs.{InForce.{AreInstants}, InstantLaws.{from_reading, reads_back}, RisingLaws.{Rises, pairs_more, contains_head, contains_more, cases_more}}
+use Rattle.tz_lookup.specs.{InForce.{AreInstants}, InstantLaws.{from_reading, reads_back}, RisingLaws.{Rises, pairs_more, contains_head, contains_more, cases_more}}
 use Rattle.tz_tzif.specs.Instants.{Falls, FallsFrom}
 
 -- whether an offset is in force at the instant at which clocks at it show a local time

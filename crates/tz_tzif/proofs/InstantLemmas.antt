@@ -6,7 +6,7 @@ use Rattle.civil_base.specs.{DateTimes.{at_offset}, Instants.{instant_at, second
 use Rattle.tz_tzif.specs.{FooterForce.{FooterZone}, FooterShown.{held_shown}, declared.held.Held.{Held}, InForce.{kind_at, kind_in, total_in, told_total_at}, Next.{IsHeldFor}, Zones.{IsOfKind}, Instants.{Falls, is_read, read_at}, Offsets.{offsets_of}}
 use Rattle.tz_tzif.proofs.{GivenLemmas.{reads, given, given_are, given_takes, given_skips, totals_given}, OffsetLemmas.{offsets_fall, each_there}}
 use Rattle.zone_spans.specs.Schedules.{instants}
-use Rattle.tz_zone.specs.{InForce.{in_force, all_in_force, shown_of, totals_at}, InForceLaws.{shown_at_offset}, InstantLaws.{few_pass, instants_one}, SecondLaws.{seconds_of-instant_at}}
+use Rattle.tz_lookup.specs.{InForce.{in_force, all_in_force, shown_of, totals_at}, InForceLaws.{shown_at_offset}, InstantLaws.{few_pass, instants_one}, SecondLaws.{seconds_of-instant_at}}
 use Rattle.zone_tzif_core.specs.Zones.{KindValue, ZoneValue}
 
 -- the total at an instant, by its second

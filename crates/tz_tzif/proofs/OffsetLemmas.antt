@@ -3,7 +3,7 @@ use Rattle.std.proofs.{Common.{◌≡◌, Bool, true, false, cond, List, [], ◌
 use Rattle.std.specs.{Prelude.{Contains}, List.{filter}, Ordering.{int_eq}}
 use Rattle.basics.specs.ComparisonLaws.{eq_from_pass, lt_from_pass}
 use Rattle.tz_tzif.specs.{FooterForce.{FooterZone, fixed, yearly, held_at, is_footer_saving, standard_total, saving_total}, InForce.{are_over, kind_in, total_in}, Instants.{Falls, FallsFrom}, Offsets.{offsets_of, put, put_all, put_footer}}
-use Rattle.tz_zone.specs.RisingLaws.{contains_head, contains_more, cases_more}
+use Rattle.tz_lookup.specs.RisingLaws.{contains_head, contains_more, cases_more}
 use Rattle.zone_tzif_core.specs.{Totals.{last_kind}, Zones.{KindValue, ZoneValue}}
 
 lt_from_tests : (a b : ℤ) → int_lt a b ≡ false → int_eq b a ≡ false → b <ℤ a

@@ -3,7 +3,7 @@ use Rattle.std.proofs.{Common.{◌≡◌, ℕ, zero, suc, ◌*◌, ◌-◌, ◌<
 use Rattle.basics.specs.{ComparisonLaws.{le_from_pass, le_le, le_pass, lt_from_fail, lt_from_pass}, Days.{day, days_after_zero, days_before_zero, days_in_month, days_in_year, days_into_year, days_through, is_leap, year_start}, SignedLaws.{signed}}
 use Rattle.civil_base.specs.{Instants.{seconds_of}, RangeLaws.{offset_greatest, offset_least}, Ranges.{IsOffset}}
 use Rattle.zone_spans.specs.{Cycle.{instant_on, seconds_on}, declared.span.FixedTimespan.{FixedTimespan}}
-use Rattle.tz_zone.specs.{Compiles.{spans_of}, SecondLaws.{IsSecond, one_second, second_is}, declared.set.FixedTimespanSet.{FixedTimespanSet}}
+use Rattle.tz_lookup.specs.{Compiles.{spans_of}, SecondLaws.{IsSecond, one_second, second_is}, declared.set.FixedTimespanSet.{FixedTimespanSet}}
 use Rattle.tz_ever.specs.{Ever.{IsRepeating}, InForce.{span_at}, Recurrences.{RepeatsAs, brought_on, turned, zone_span}, Seam.{IsAtSeam, brought_back, cycles_past, next_seam, seam}, SeamLaws.{ArePast, back_by, cycles_past-are}, declared.recurrence.Recurrence.{Recurrence}, declared.recurrence.Recurrence.TheVariants.{Never, Later, Always}}
 use Rattle.tz_tzif.specs.{FooterForce.{FooterZone, held_at, standard_total}, InForce.{are_over, kind_at, kind_in}, Opened.{span_of}, Walks.{GoesAs, IsByFooter, Tells, begin_of_set, cycle_begin, cycle_end, end_of_set}, Years.{HasDate, IsInYears, end_of_dated, first_dated}}
 use Rattle.zone_tzif_core.specs.Zones.{KindValue, ZoneValue}

@@ -1,7 +1,7 @@
 -- The second of a local time.
 use Rattle.std.proofs.{Common.{◌≡◌, ℤ, pos, ◌∙◌, w64, to_z, of_z, SFits}, lemmas.Int.{to_z-of_z}}
 use Rattle.civil_base.specs.{DateTimes.{instant, local_of, offset_of}, Instants.{seconds_of}, declared.offset_date_time.OffsetDateTime.{OffsetDateTime}}
-use Rattle.tz_zone.specs.UtcLaws.{second_at_utc}
+use Rattle.tz_lookup.specs.UtcLaws.{second_at_utc}
 
 -- as the code has it
 pub utc_second_cast : (date : OffsetDateTime) (x r : ℤ) → SFits w64 r → r ≡ seconds_of (instant date) → local_of date ≡ x

@@ -5,7 +5,7 @@ use borrow.Author.Differences.{up}
 use Rattle.basics.specs.{ComparisonLaws.{le_fail, le_itself, le_le, le_pass}, SignedLaws.{signed}}
 use Rattle.civil_base.specs.{Instants.{seconds_of}, RangeLaws.{offset_greatest, offset_least}, Ranges.{IsOffset, is_offset}}
 use Rattle.zone_spans.specs.{Entries.{Entry, total}, declared.span.FixedTimespan.{FixedTimespan}}
-use Rattle.tz_zone.specs.{SecondLaws.{same_test}, Sets.{AreSpanTimes, IsAccepted, IsSpanTime, schedule_of, shift_of}, Spans.{Shift, TimesDontFall, shift_at}, declared.set.FixedTimespanSet.{FixedTimespanSet}}
+use Rattle.tz_lookup.specs.{SecondLaws.{same_test}, Sets.{AreSpanTimes, IsAccepted, IsSpanTime, schedule_of, shift_of}, Spans.{Shift, TimesDontFall, shift_at}, declared.set.FixedTimespanSet.{FixedTimespanSet}}
 use Rattle.tz_ever.specs.InForce.{has_come, span_by}
 use Rattle.tz_tzif.specs.{Opened.{saving_of, span_of}, Walks.{AreBefore, AreShifts, Tells}}
 use Rattle.zone_tzif_core.specs.Zones.{KindValue}

@@ -2,7 +2,7 @@
 use Rattle.std.specs.Prelude.{◌≡◌, ℕ, Bool, true, List, Option, Some, ℤ, pos, ◌-ℤ◌, ◌≤ℤ◌, ◌<ℤ◌, if◌then◌else◌}
 use Rattle.civil_base.specs.{Instants.{seconds_of}, Ranges.{IsOffset}}
 use Rattle.zone_spans.specs.{Entries.{Entry}, declared.span.FixedTimespan.{FixedTimespan}}
-use Rattle.tz_zone.specs.{Sets.{IsAccepted, schedule_of}, declared.set.FixedTimespanSet.{FixedTimespanSet}}
+use Rattle.tz_lookup.specs.{Sets.{IsAccepted, schedule_of}, declared.set.FixedTimespanSet.{FixedTimespanSet}}
 use Rattle.tz_ever.specs.{InForce.{span_by}, Recurrences.{RepeatsAs, zone_span}, declared.recurrence.Recurrence.{Recurrence}, declared.recurrence.Recurrence.TheVariants.{Never, Later, Always}}
 use Rattle.tz_tzif.specs.{Faults.{IsAcceptedFile}, FooterForce.{FooterZone, standard_total}, InForce.{are_over, kind_at}, Years.{HasDate, end_of_dated, first_dated}, declared.spans.FileSpans.{FileSpans}}
 use Rattle.zone_tzif_core.specs.Zones.{KindValue, ZoneValue}

@@ -3,7 +3,7 @@ use Rattle.std.specs.Prelude.{◌≡◌, ℕ, ◌<◌, true, List, length, map, 
 use Rattle.std.specs.List.{list_all}
 use Rattle.civil_base.specs.{Instants.{seconds_of}, Ranges.{IsOffset, is_offset}}
 use Rattle.zone_spans.specs.{Entries.{Entry}, declared.span.FixedTimespan.{FixedTimespan}}
-use Rattle.tz_zone.specs.{Sets.{AreSpanTimes, IsAccepted, schedule_of, shift_of}, Spans.{Shift, TimesDontFall, shift_at}, declared.set.FixedTimespanSet.{FixedTimespanSet}}
+use Rattle.tz_lookup.specs.{Sets.{AreSpanTimes, IsAccepted, schedule_of, shift_of}, Spans.{Shift, TimesDontFall, shift_at}, declared.set.FixedTimespanSet.{FixedTimespanSet}}
 use Rattle.tz_ever.specs.{InForce.{span_by}, declared.recurrence.Recurrence.{Recurrence}, declared.recurrence.Recurrence.TheVariants.{Never, Later, Always}}
 use Rattle.tz_tzif.specs.{FooterForce.{FooterZone, standard_total}, InForce.{are_over}, Opened.{span_of}, Years.{end_of_dated, first_dated}}
 use Rattle.zone_tzif_core.specs.Zones.{KindValue, ZoneValue}

@@ -3,7 +3,7 @@ ghost use Rattle.std.specs.Prelude.{◌≡◌, ◌↔◌, IsTrue};
 ghost use Rattle.tz_tzif.specs.FooterShown.{held_shown};
 
 use civil_base::UtcOffset;
-use tz_zone::Offset;
+use tz_lookup::Offset;
 
 /// An offset from UTC that a compiled zone puts in force, with its abbreviation and whether it is daylight saving time.
 #[derive(Clone, Copy, Debug, Drop, PartialEq, Eq)]

@@ -5,7 +5,7 @@ ghost use Rattle.tz_tzif.specs.{FooterShown.{held_shown}, InForce.{kind_in, tota
 use crate::held::Held;
 use crate::zone::TzifTz;
 use civil_base::{OffsetDateTime, PlainDateTime};
-use tz_zone::{AllInstants, InstantsOf};
+use tz_lookup::{AllInstants, InstantsOf};
 
 /// What holds by the offset at a place, if that is in force at the second at which clocks at it show a local second.
 fn held_by<'a>(tz: &TzifTz<'a>, second: i64, place: usize) -> Option<Held<'a>>

@@ -14,7 +14,7 @@ use crate::repeats::footers_repeat;
 use basics::{Items, Text};
 use std::alloc::{AllocError, Global};
 use tz_ever::Recurrence;
-use tz_zone::FixedTimespanSet;
+use tz_lookup::FixedTimespanSet;
 use zone_spans::FixedTimespan;
 use zone_tzif_core::ZoneFile;
 

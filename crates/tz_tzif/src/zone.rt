@@ -17,7 +17,7 @@ use crate::offsets::offsets_of;
 use crate::search::held_after;
 use civil_base::{OffsetDateTime, PlainDateTime};
 use std::alloc::Global;
-use tz_zone::{InstantsOf, OffsetResult, TimeZone};
+use tz_lookup::{InstantsOf, OffsetResult, TimeZone};
 use zone_tzif_core::ZoneFile;
 
 /// The last second of those around 1970 in which changes are looked for: one of the year 8307.
@@ -42,7 +42,7 @@ pub struct TzifTz<'a> {
 impl<'a> TzifTz<'a> {
     ghost use Rattle.std.specs.Prelude.{◌↔◌, IfSome, IsTrue, MatchResult, map, unsigned_abs, ◌≤ℤ◌, ◌<ℤ◌};
     ghost use Rattle.civil_base.specs.DateTimes.{instant};
-    ghost use Rattle.tz_zone.specs.{AllLeft.{all_left}, InForce.{all_in_force, shown_of, AreInstants}};
+    ghost use Rattle.tz_lookup.specs.{AllLeft.{all_left}, InForce.{all_in_force, shown_of, AreInstants}};
     ghost use Rattle.tz_tzif.specs.{FooterShown.{held_shown}, Faults.{IsTzifFault}, InForce.{kind_in}, Zones.{value_of, says_of, IsZoneOf}};
 
     /// The zone of a value, under that name.

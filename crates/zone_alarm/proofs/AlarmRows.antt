@@ -2,7 +2,7 @@
 use Rattle.std.{proofs.Common.{◌≡◌, ℕ, lit≤, List, [], ◌∷◌, ◌++◌, map, Option, Some, None, option_map, refl, ◌∙◌, arith, ℤ, pos, true, false}, specs.Fmt.{digits}, specs.Prelude.{codes}}
 use Rattle.basics.specs.{DateLaws.{year_of-day, month_of-day, day_of-day}, Days.{is_leap, days_in_year, days_in_month, days_after_zero, year_start, days_through, days_into_year, day, IsCountedYear, IsDate}, SignedLaws.{signed}}
 use Rattle.civil_base.specs.{Layout.{date_digits, day_part, four_digits, two_digits, year_sign}, LocalTimes.{local_time_in}}
-use Rattle.tz_zone.specs.declared.set.FixedTimespanSet.{FixedTimespanSet}
+use Rattle.tz_lookup.specs.declared.set.FixedTimespanSet.{FixedTimespanSet}
 use Rattle.zone_alarm.specs.{Asks.{asks, both, form}, RingLines.{ring_line}, Rings.{ends_in_years, rings, time_on}, Words.{days_in, start_text}}
 
 -- from 1 to 36,600, with neither a sign nor a leading zero

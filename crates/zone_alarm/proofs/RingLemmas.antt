@@ -1,8 +1,7 @@
 -- The ring of a day is the first of what a zone answers, and the rings of one day more.
 use Rattle.std.{proofs.Common.{◌≡◌, ℕ, zero, suc, ◌+◌, List, [], ◌∷◌, ◌++◌, map, take, ℤ, pos, ◌+ℤ◌, refl, ap, ◌∙◌, arith}, specs.Prelude.{option_map}, specs.List.{range_with_len, slice_get}, proofs.lemmas.List.{map-append}}
 use Rattle.civil_base.specs.declared.offset_date_time.OffsetDateTime.{OffsetDateTime}
-use Rattle.tz_lookup.specs.{Answers.{listed}, InForce.{shown_of}, Results.{first_in}}
-use Rattle.tz_zone.specs.declared.time_zone.OffsetResult.{OffsetResult, TheVariants.{Some, Ambiguous, None}}
+use Rattle.tz_lookup.specs.{Answers.{listed}, InForce.{shown_of}, Results.{first_in}, declared.time_zone.OffsetResult.{OffsetResult, TheVariants.{Some, Ambiguous, None}}}
 use Rattle.zone_alarm.specs.Rings.{day_ring, rings}
 
 head_listed : (answer : OffsetResult OffsetDateTime) → option_map shown_of (first_in answer) ≡ slice_get (map shown_of (listed answer)) 0

@@ -1,11 +1,10 @@
 -- Answers and refusals at the zones of a table, and over the source whose table it is.
 use Rattle.std.proofs.{Common.{◌≡◌, ℕ, suc, ℤ, Bool, true, false, cond, List, [], ◌∷◌, map, Option, Some, None, MatchOption, option_map, Result, Ok, Err, refl, sym, ap, subst, ◌∙◌}, lemmas.Option.{none-some}}
 use Rattle.std.specs.{List.{flat_map}, Option.{option_or, option_map_or}, Str.{is_utf8}}
-use Rattle.zone_values.specs.declared.fault.FaultKind.{FaultKind}
-use Rattle.zone_values.specs.Faults as line
+use Rattle.zone_table.specs.{declared.fault.FaultKind.{FaultKind}, Tables.{IsTableOf}, declared.table.Table.{Table}, declared.zone.ZoneInfo.{ZoneInfo}}
+use Rattle.zone_table.specs.Faults as line
 use Rattle.zone_source.specs.{Faults.{SourceFault, source_fault, bad_line}, Lines.{lines_of}, Zones.{values_of, zone_in, rules_in}}
 use Rattle.zone_spans.specs.{Compiled.{compiled}, Lines.{Rulesets}, Schedules.{is_in_offset_range, total_at, totals_of}, declared.fault.SpanFault.{SpanFault}, declared.span.FixedTimespanSet.{FixedTimespanSet}}
-use Rattle.zone_table.specs.{Tables.{IsTableOf}, declared.table.Table.{Table}, declared.zone.ZoneInfo.{ZoneInfo}}
 use Rattle.zone_answers.specs.{Due.{answer_line, answer_lines_with, shown_for, shown_with}, Faults.{Fault, of_source, request_not_text, bad_request, bad_zone, range, has_dates, found_refusal, request_refusal, first_refused, source_refusal, fault, fault_with}}
 use Rattle.zone_answers.specs.{Found.{Reading, found_in, found_in_table, found_of, found_under, given_to_2099, offset_range, rules_end, to_2099}, Requests.{Request, name_of, request_of}, Told.{fault_told, TellsOf, TellsReading}}
 use Rattle.zone_answers.specs.declared.error.{AnswerError.{AnswerError}, AnswerError.TheVariants.{NoMemory}, ReadingError.{ReadingError}, ReadingError.TheVariants.{Answer, RulesEnd}}

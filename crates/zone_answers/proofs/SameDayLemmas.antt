@@ -4,8 +4,7 @@ use Rattle.std.specs.{Prelude.{◌&&◌, ◌==◌, bytes_eq, nat_le, nat_lt}, Cm
 use Rattle.basics.specs.SignedLaws.{signed}
 use Rattle.civil_base.specs.{Clock.{nanos_per_day}, Instants.{local_at, nanos_of, seconds_of}, Layout.{day_part, time_part, zoned_text}, PartLaws.{parts-joined, time_part-inside}, RangeLaws.{offset_least, offset_greatest, years_between}, Ranges.{IsOffset}}
 use Rattle.zone_spans.specs.Schedules.{Schedule, total_at}
-use Rattle.tz_zone.specs.{SecondLaws.{IsSecond, one_second, second_is, total_is}, Spans.{total_from}}
-use Rattle.tz_lookup.specs.{Stretches.{IsKnown}, declared.stretch.Stretch.{Stretch}}
+use Rattle.tz_lookup.specs.{SecondLaws.{IsSecond, one_second, second_is, total_is}, Spans.{total_from}, Stretches.{IsKnown}, declared.stretch.Stretch.{Stretch}}
 use Rattle.zone_answers.specs.{AskedLaws.{Asks}, Due.{answer_text, shown_at}, Faults.{has_dates, range}, Found.{Found}, Requests.{at, request_of}, SameDayLaws.{in_seconds}, SameDays.{AreLast, IsAdded, IsAnswered, IsAround, IsBefore, IsOfDay, IsOnDay, IsSameDay, IsThroughout, are_alike, at_time, ends_in_digits, front_of, is_of, last_instant, last_of, with_last}, declared.same_day.SameDay.{SameDay}}
 use Rattle.zone_answers.proofs.{DayLemmas.{IsSameDate, other_time, same_date}, LastLemmas.{EndsInDigits, IsOther, all_digits, late_digits, other_request}, ReadBackLemmas.{line_back}, RequestLemmas.{digits_from}, RefusalLemmas.{dates_are, line_is}}
 

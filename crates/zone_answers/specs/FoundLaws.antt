@@ -1,7 +1,7 @@
 -- An error tells why the zone of a request can't be asked.
 use Rattle.std.proofs.Common.{◌≡◌, ◌≢◌, ℕ, ℤ, Option, Some, Result, refl}
-use Rattle.tz_zone.specs.{Compiles.{IsZoneFault}, declared.compile.ZoneFault.{ZoneFault}}
-use Rattle.tz_zone.specs.declared.compile.ZoneFault.TheVariants as zone
+use Rattle.tz_lookup.specs.{Compiles.{IsZoneFault}, declared.compile.ZoneFault.{ZoneFault}}
+use Rattle.tz_lookup.specs.declared.compile.ZoneFault.TheVariants as zone
 use Rattle.zone_run.specs.{Readings.{Found}, Responses.{TellsCause}, declared.found.FindFault.TheVariants.{Zone}}
 use Rattle.zone_spans.specs.declared.{fault.SpanFault.{SpanFault}, span.FixedTimespanSet.{FixedTimespanSet}}
 use Rattle.zone_spans.specs.declared.fault.SpanFault.TheVariants as span

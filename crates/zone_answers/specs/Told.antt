@@ -1,12 +1,12 @@
 -- The fault that the code's error tells; want of memory tells none.
 use Rattle.std.specs.Prelude.{◌≡◌, ℕ, Option, Some, None, MatchOption, option_map}
-use Rattle.zone_values.specs.Faults.{fault_of}
+use Rattle.zone_table.specs.Faults.{fault_of}
 use Rattle.zone_source.specs.{Told.{told_by_source, IsTold}, declared.error.SourceError.{SourceError}}
 use Rattle.zone_source.specs.Faults as source
 use Rattle.zone_spans.specs.declared.fault.SpanFault.{SpanFault}
 use Rattle.zone_spans.specs.declared.fault.SpanFault.TheVariants as span_fault
-use Rattle.tz_zone.specs.declared.compile.ZoneFault.{ZoneFault}
-use Rattle.tz_zone.specs.declared.compile.ZoneFault.TheVariants as zone_fault
+use Rattle.tz_lookup.specs.declared.compile.ZoneFault.{ZoneFault}
+use Rattle.tz_lookup.specs.declared.compile.ZoneFault.TheVariants as zone_fault
 use Rattle.zone_answers.specs.{Faults.{Fault, of_source, request_not_text, bad_request, bad_zone, range}, Found.{unknown_zone, bad_schedule, offset_range, rules_end}, declared.error.AnswerError.{AnswerError}, declared.error.ReadingError.{ReadingError}}
 use Rattle.zone_answers.specs.declared.error.Side.{Side, TheVariants.{Source, Requests}}
 use Rattle.zone_answers.specs.declared.error.AnswerError.TheVariants as error

@@ -1,8 +1,8 @@
 -- Answers by the zones that names found.
 use Rattle.std.{proofs.Common.{◌≡◌, ℕ, ℤ, List, [], Option, Some, None, IfSome, Ok, Err, Bool, true, false, cond, refl, sym, subst, ◌∙◌, int_cmp, int_lt, is_lt, Less, Equal, Greater}, specs.Prelude.{Result, Vec}, specs.declared.alloc.Global.{Global}}
 use Rattle.zone_command.specs.{Answers.{told, IsAnswer, IsReply, ◌>>=◌}, Due.{Due as Delivered, IsDue}, Named.{Found, named_in}, Replies.{list_answer, list_lines, on_zone}, declared.answerer.AnswerFault.{AnswerFault, TheVariants.{Line, NoMemory}}, declared.source.Refusal.{Refusal}}
-use Rattle.zone_moments.specs.declared.answer_form.AnswerForm.{AnswerForm}
-use Rattle.zone_replies.specs.{Faults.{Due}, Views.{ZoneView}, declared.fault.ReplyFault.{ReplyFault}}
+use Rattle.zone_words.specs.declared.answer_form.AnswerForm.{AnswerForm}
+use Rattle.zone_texts.specs.{Faults.{Due}, Views.{ZoneView}, declared.fault.ReplyFault.{ReplyFault}}
 
 -- of one zone
 pub answered : (found : List ℕ → Found) (name who : List ℕ) (reply : ZoneView → Due) {view : ZoneView} (lines : Result (Vec ℕ Global) ReplyFault)

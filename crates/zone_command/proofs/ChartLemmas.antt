@@ -1,8 +1,7 @@
 -- Zones that names find, one after another.
 use Rattle.std.{proofs.Common.{◌≡◌, ℕ, List, [], ◌∷◌, ◌++◌, map, Ok, Err, refl, sym, subst, ap, ◌∙◌, append_assoc, append-nil}, proofs.lemmas.List.{map-append}, specs.Prelude.{Result, Vec, decimal}, specs.declared.alloc.Global.{Global}}
 use Rattle.zone_command.specs.{Answers.{told, IsAnswer, IsReply, ◌>>=◌}, Named.{Found, named_in}, Replies.{behind_found, chart_answer, named_zones, IsStep}, declared.source.Refusal.{Refusal}}
-use Rattle.zone_displays.specs.{Charts.{chart_due}, SeenZones.{Named}}
-use Rattle.zone_replies.specs.{Faults.{Due}, Views.{ZoneView}, declared.fault.ReplyFault.{ReplyFault}}
+use Rattle.zone_texts.specs.{Charts.{chart_due}, SeenZones.{Named}, Faults.{Due}, Views.{ZoneView}, declared.fault.ReplyFault.{ReplyFault}}
 
 pub nothing : (left : Result (List Named) (List ℕ)) → behind_found [] left ≡ left
 nothing (Ok more) = refl

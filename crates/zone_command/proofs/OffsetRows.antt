@@ -2,7 +2,7 @@
 use Rattle.std.{proofs.Common.{◌≡◌, refl, map, ℕ, ℤ, List, [], ◌∷◌, ◌++◌, Option, Some, None, pos, neg_ℤ}, specs.Prelude.{codes}}
 use Rattle.basics.specs.Numbers.{value_in}
 use Rattle.zone_command.specs.{Offsets.{two_in, size_in, offset_in}, Refusals.{fault_words, name_words, told_line}}
-use Rattle.zone_replies.specs.declared.fault.ReplyFault.TheVariants.{Untold}
+use Rattle.zone_texts.specs.declared.fault.ReplyFault.TheVariants.{Untold}
 
 abbrev offsets : List (List ℕ × Option ℤ)
 offsets =

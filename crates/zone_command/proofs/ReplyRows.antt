@@ -3,9 +3,8 @@ use Rattle.std.{proofs.Common.{◌≡◌, refl, true, false, ap, arith, map, lit
 use Rattle.basics.specs.{DateLaws.{year_of-day}, Dates.{year_of}, Days.{is_leap, days_in_year, days_in_month, days_after_zero, days_before_zero, year_start, days_through, days_into_year, day, IsCountedYear}, SignedLaws.{signed}, Numbers.{value_in}}
 use Rattle.civil_base.specs.{Instants.{seconds_of}, Layout.{day_part}}
 use Rattle.zone_command.specs.{Answers.{lined, of_name, told}, Named.{Found, named_in}, Offsets.{two_in, size_in, offset_in}, Replies.{asks_form, list_lines, reply_of}}
-use Rattle.zone_moments.specs.{Written.{epoch_text, fraction_text, offset_shown}, declared.answer_form.AnswerForm.TheVariants.{Epoch}}
-use Rattle.zone_replies.specs.{Faults.{each_due}, Fixed.{fixed_view}, Lists.{change_due, list_due, sides_text}, Views.{ZoneView}, declared.fault.ReplyFault.TheVariants.{OutOfYears, Untold}}
-use Rattle.zone_words.specs.Tasks.{converted, list_changes, plain_form, tree}
+use Rattle.zone_words.specs.{Written.{epoch_text, fraction_text, offset_shown}, declared.answer_form.AnswerForm.TheVariants.{Epoch}, Tasks.{converted, list_changes, plain_form, tree}}
+use Rattle.zone_texts.specs.{Faults.{each_due}, Fixed.{fixed_view}, Lists.{change_due, list_due, sides_text}, Views.{ZoneView}, declared.fault.ReplyFault.TheVariants.{OutOfYears, Untold}}
 
 view : ZoneView
 view = record {

@@ -1,10 +1,8 @@
 -- What is told of failures, with the status; which file is read; when the clock is asked; what answers what comes in.
 use Rattle.std.{proofs.Common.{◌≡◌, refl, map, ℕ, Bool, true, false, List, [], ◌∷◌, ◌++◌, Some, None, pos}, specs.Prelude.{codes}}
 use Rattle.zone_command.specs.{Ends.{file_of, is_served}, Failures.{Failure, bad_words, clock_fails, environment_fails, file_fails, file_long, no_memory, refuses, errors_at, errors_of, status_at, status_of}, Times.{asks_now}}
-use Rattle.zone_moments.specs.declared.fault.TextFault.TheVariants.{TimeMissing}
-use Rattle.zone_pieces.specs.declared.running.StreamEnd.{StreamEnd, TheVariants.{Done, Fault, Read, Write, NoMemory, TooLong}}
+use Rattle.zone_words.specs.{declared.text_fault.TextFault.TheVariants.{TimeMissing}, declared.running.StreamEnd.{StreamEnd, TheVariants.{Done, Fault, Read, Write, NoMemory, TooLong}}, FaultLines.{fault_line}, Tasks.{TaskAsked, help, at_instants, local_time, list_changes, log, plain_form, stream, tree}, declared.command.Command.TheVariants.{At}, declared.fault.WordCause.TheVariants.{BeforeFirst, Text, TooFew, UnknownOption}}
 use Rattle.zone_source.specs.Statuses.{code_of}
-use Rattle.zone_words.specs.{FaultLines.{fault_line}, Tasks.{TaskAsked, help, at_instants, local_time, list_changes, log, plain_form, stream, tree}, declared.command.Command.TheVariants.{At}, declared.fault.WordCause.TheVariants.{BeforeFirst, Text, TooFew, UnknownOption}}
 
 abbrev quoted : List ℕ → List ℕ
 quoted word = 34 ∷ word ++ 34 ∷ []

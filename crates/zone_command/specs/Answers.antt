@@ -1,7 +1,7 @@
 -- Answers: texts, or the words that tell why there is none.
 use Rattle.std.specs.{Prelude.{◌≡◌, ℕ, List, Result, Ok, Err, Vec}, declared.alloc.Global.{Global}}
 use Rattle.zone_command.specs.{Due.{Due as Delivered}, Refusals.{fault_words, name_words, told_line}, declared.source.Refusal.{Refusal}, declared.source.Refusal.TheVariants.{Why, NoMemory}}
-use Rattle.zone_replies.specs.{Faults.{Due, IsFaultOf}, declared.fault.ReplyFault.{ReplyFault}}
+use Rattle.zone_texts.specs.{Faults.{Due, IsFaultOf}, declared.fault.ReplyFault.{ReplyFault}}
 
 abbrev pub Answer : Type 0
 Answer = Result (List ℕ) (List ℕ)

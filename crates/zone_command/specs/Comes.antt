@@ -1,7 +1,7 @@
 -- What the code's results come to.
 use Rattle.std.specs.{Prelude.{◌≡◌, ℕ, Result, Ok, Err, Vec}, declared.alloc.Global.{Global}}
 use Rattle.zone_outside.specs.Exchanges.{ExchangeSeen}
-use Rattle.zone_pieces.specs.{Filters.{Made}, Runs.{Ends}, declared.running.StreamEnd.{StreamEnd}}
+use Rattle.zone_words.specs.{Filters.{Made}, Runs.{Ends}, declared.running.StreamEnd.{StreamEnd}}
 use Rattle.zone_command.specs.{Ends.{Outcome, answered, served, failed}, FailureShown.{failure_shown}, declared.failure.Failure.{Failure}, declared.find.Found.{Found}, declared.find.Found.TheVariants.{Text, Input}}
 
 -- an outcome that this says, and what it did to the exchange

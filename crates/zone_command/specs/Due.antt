@@ -1,8 +1,7 @@
 -- What is due over the text of a source.
 use Rattle.std.specs.{Prelude.{◌≡◌, ℕ, List, Result, Ok, Err, ℤ, Vec}, declared.alloc.Global.{Global}}
 use Rattle.zone_outside.specs.Exchanges.{ExchangeSeen}
-use Rattle.zone_pieces.specs.{Filters.{Made}, Runs.{Ends}, declared.running.StreamEnd.{StreamEnd}}
-use Rattle.zone_words.specs.Tasks.{WordsAsked}
+use Rattle.zone_words.specs.{Filters.{Made}, Runs.{Ends}, declared.running.StreamEnd.{StreamEnd}, Tasks.{WordsAsked}}
 use Rattle.zone_command.specs.declared.answerer.AnswerFault.{AnswerFault, TheVariants.{Line, NoMemory}}
 
 -- the answer, or the line that tells why there is none

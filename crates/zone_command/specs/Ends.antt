@@ -3,10 +3,9 @@ use Rattle.std.specs.Prelude.{◌≡◌, ◌⊎◌, ◌≤◌, ℕ, Bool, true, 
 use Rattle.civil_base.specs.Ranges.{is_in_years}
 use Rattle.zone_command.specs.{Bare.{bare}, Due.{Answers, Makings}, Failures.{Failure, refuses, bad_words, clock_fails, environment_fails, file_fails, file_long, no_memory, errors_at, errors_of, status_at, status_of}, Times.{asks_now}}
 use Rattle.zone_outside.specs.{Exchanges.{ExchangeSeen, Wrote, WrotePart}, Limit.{text_limit}, Outside.{Rose, TooMuch}, Seen.{ShelfSeen, OutputSeen, Grew, GrewBySome}}
-use Rattle.zone_pieces.specs.{Filters.{Made}, Runs.{Ends}, declared.running.StreamEnd.{StreamEnd}}
+use Rattle.zone_words.specs.{Filters.{Made}, Runs.{Ends}, declared.running.StreamEnd.{StreamEnd}, Faults.{Reading}, Tasks.{TaskAsked, WordsAsked, stream, log}}
 use Rattle.zone_source.specs.declared.running.Status.{Status}
 use Rattle.zone_source.specs.declared.running.Status.TheVariants as status
-use Rattle.zone_words.specs.{Faults.{Reading}, Tasks.{TaskAsked, WordsAsked, stream, log}}
 
 -- ---- what is read
 

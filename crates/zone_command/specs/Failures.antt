@@ -1,10 +1,9 @@
 -- Why a run has no answer, and what is due of that on standard error.
 use Rattle.std.specs.Prelude.{ℕ, List, [], ◌∷◌, ◌++◌, codes, if◌then◌else◌}
-use Rattle.zone_pieces.specs.declared.running.StreamEnd.{StreamEnd}
-use Rattle.zone_pieces.specs.declared.running.StreamEnd.TheVariants as stream
+use Rattle.zone_words.specs.{declared.running.StreamEnd.{StreamEnd}, FaultLines.{fault_line}, Faults.{Fault}, Told.{is_of_time}}
+use Rattle.zone_words.specs.declared.running.StreamEnd.TheVariants as stream
 use Rattle.zone_source.specs.declared.running.Status.{Status}
 use Rattle.zone_source.specs.declared.running.Status.TheVariants as status
-use Rattle.zone_words.specs.{FaultLines.{fault_line}, Faults.{Fault}, Told.{is_of_time}}
 
 pub data Failure : Type 0 where
   -- the line that tells why there is none over the source

@@ -1,6 +1,6 @@
 -- Zones by their names: offsets, and what the source has.
 use Rattle.std.specs.{Prelude.{ℕ, List, Result, Ok, Err}, Option.{option_map_or}}
-use Rattle.zone_replies.specs.{Fixed.{fixed_view}, Views.{ZoneView}}
+use Rattle.zone_texts.specs.{Fixed.{fixed_view}, Views.{ZoneView}}
 use Rattle.zone_command.specs.{Offsets.{offset_in}, Refusals.{name_words}, declared.named.NamedZone.{NamedZone}, declared.named.NamedZone.TheVariants.{Fixed, Found as In}}
 
 -- what is seen of the zone that a name finds, or the words that tell why it finds none

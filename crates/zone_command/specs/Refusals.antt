@@ -1,6 +1,6 @@
 -- Why a source, a zone or a reply is refused, in words.
 use Rattle.std.specs.Prelude.{ℕ, List, [], ◌∷◌, ◌++◌, codes}
-use Rattle.zone_replies.specs.declared.fault.ReplyFault.{ReplyFault, TheVariants.{OutOfYears, Untold, NoMemory as NoRoom}}
+use Rattle.zone_texts.specs.declared.fault.ReplyFault.{ReplyFault, TheVariants.{OutOfYears, Untold, NoMemory as NoRoom}}
 use Rattle.zone_command.specs.declared.source.Refusal.{Refusal, TheVariants.{Why, NoMemory}}
 
 -- the words are such; or memory ran out

@@ -2,10 +2,8 @@
 use Rattle.std.specs.Prelude.{◌≡◌, ◌⊎◌, ◌&&◌, ℕ, Bool, true, false, List, [], ◌∷◌, ◌++◌, map, Option, Result, Ok, Err, codes, decimal, int_lt, unwrap_or, ℤ, if◌then◌else◌}
 use Rattle.civil_base.specs.Ranges.{is_in_years}
 use Rattle.zone_command.specs.{Answers.{Answer, OfName, lined, of_name, told, ◌>>=◌}, Named.{Found, named_in}, Refusals.{name_words, told_line}, Due.{Answers, Due as Delivered}}
-use Rattle.zone_displays.specs.{Charts.{chart_due}, SeenZones.{Named}, SeenNames.{NameSeen}, Texts.{names_text}, Rings.{rings_due}}
-use Rattle.zone_moments.specs.declared.answer_form.AnswerForm.{AnswerForm}
-use Rattle.zone_replies.specs.{Faults.{Due, behind, ended}, Instants.{line_due}, Lists.{list_due}, Readings.{convert_due}, Views.{ZoneView}, declared.fault.ReplyFault.TheVariants.{OutOfYears}}
-use Rattle.zone_words.specs.Tasks.{TaskAsked, WordsAsked, at_instants, local_time, converted, list_changes, alarm, names, file, posix_string, tree, chart, plain_form}
+use Rattle.zone_texts.specs.{Charts.{chart_due}, SeenZones.{Named}, SeenNames.{NameSeen}, Texts.{names_text}, Rings.{rings_due}, Faults.{Due, behind, ended}, Instants.{line_due}, Lists.{list_due}, Readings.{convert_due}, Views.{ZoneView}, declared.fault.ReplyFault.TheVariants.{OutOfYears}}
+use Rattle.zone_words.specs.{declared.answer_form.AnswerForm.{AnswerForm}, Tasks.{TaskAsked, WordsAsked, at_instants, local_time, converted, list_changes, alarm, names, file, posix_string, tree, chart, plain_form}}
 
 -- a line for each instant, behind those that there are
 abbrev pub at_lines : AnswerForm → ZoneView → List ℕ → List ℕ → List ℤ → Due

@@ -7,9 +7,8 @@ ghost use Rattle.zone_words.specs.TaskShown.{words_shown};
 use civil_base::OffsetDateTime;
 use std::alloc::{AllocError, Global};
 use zone_outside::Exchange;
-use zone_pieces::StreamEnd;
 use zone_source::LIMIT;
-use zone_words::Asked;
+use zone_words::{Asked, StreamEnd};
 
 /// Why there is no answer.
 #[derive(Drop)]

@@ -2,9 +2,8 @@
 ghost use Rattle.std.specs.Prelude.{◌≡◌, ◌≤◌, length, [], map, option_map, Ok};
 ghost use Rattle.civil_base.specs.DateTimes.{instant};
 ghost use Rattle.zone_command.specs.{Answers.{OfName, lined, of_name, told, IsAnswer, IsGiven}, Replies.{at_lines, convert_lines, instants_at, list_answer, on_zone, reply_of, IsDueOver, IsReplyTo, IsZoneOver, asks_form}, Due.{IsDue}};
-ghost use Rattle.zone_moments.specs.Shown.{asked as asked_of};
-ghost use Rattle.zone_displays.specs.{Texts.{names_text}, Rings.{rings_due}};
-ghost use Rattle.zone_words.specs.TaskShown.{alarm_shown, task_shown, words_shown};
+ghost use Rattle.zone_words.specs.{TimesShown.{asked as asked_of}, TaskShown.{alarm_shown, task_shown, words_shown}};
+ghost use Rattle.zone_texts.specs.{Texts.{names_text}, Rings.{rings_due}};
 
 use crate::AnswerFault;
 use crate::answers::{refusal_of, told};
@@ -15,10 +14,8 @@ use crate::replies::{at_lines, convert_lines, list_lines, moment_of, ring_lines}
 use crate::source::{Refusal, ZoneSource};
 use civil_base::{OffsetDateTime, PlainDateTime};
 use std::alloc::Global;
-use zone_displays::add_names;
-use zone_moments::{AnswerForm, Asked as Instant};
-use zone_replies::Style;
-use zone_words::{Alarm, Asked, Task};
+use zone_texts::{Style, add_names};
+use zone_words::{Alarm, AnswerForm, Asked, AskedInstant as Instant, Task};
 
 /// The answer to `at`.
 fn at_reply<S: ZoneSource>(

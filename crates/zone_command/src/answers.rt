@@ -1,12 +1,12 @@
 //! Replies and refusals, told of a name.
 ghost use Rattle.std.specs.Prelude.{◌≡◌};
 ghost use Rattle.zone_command.specs.{Answers.{told, IsAnswer, IsReply}, Refusals.{fault_words, name_words, IsTold}};
-ghost use Rattle.zone_replies.specs.Faults.{Due};
+ghost use Rattle.zone_texts.specs.Faults.{Due};
 
 use crate::line::{fault_words, name_words};
 use crate::source::Refusal;
 use std::alloc::Global;
-use zone_replies::ReplyFault;
+use zone_texts::ReplyFault;
 
 /// Why a name is refused, with the name in front; or want of memory.
 pub fn refusal_of(alloc: Global, name: &str, why: &[u8]) -> Refusal

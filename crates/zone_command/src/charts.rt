@@ -1,7 +1,7 @@
 //! Pictures of zones.
 ghost use Rattle.std.specs.Prelude.{◌≡◌, ◌∷◌, ℕ, List, map, IfErr, IfOk, OnOk, Ok, Err};
 ghost use Rattle.zone_command.specs.{Answers.{IsAnswer, IsReply}, Named.{named_view}, Refusals.{IsTold}, Replies.{behind_found, chart_answer, named_zones, IsStep}};
-ghost use Rattle.zone_displays.specs.{Charts.{chart_due}, SeenZones.{Named, named}};
+ghost use Rattle.zone_texts.specs.{Charts.{chart_due}, SeenZones.{Named, named}};
 ghost use Rattle.zone_words.specs.Shown.{word_shown};
 
 use crate::answers::told;
@@ -9,8 +9,7 @@ use crate::named::{NamedZone, find_named};
 use crate::source::{Refusal, ZoneSource};
 use itoa::Buffer;
 use std::alloc::Global;
-use zone_displays::{ChartZone, add_chart};
-use zone_replies::{ReplyFault, ReplyZone};
+use zone_texts::{ChartZone, ReplyFault, ReplyZone, add_chart};
 
 /// Adds the zone that a name finds.
 fn add_charted<'n, S: ZoneSource>(

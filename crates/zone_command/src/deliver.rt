@@ -6,8 +6,8 @@ ghost use Rattle.zone_outside.specs.Seen.{output_seen};
 use crate::failure::{Failure, line_at, line_of, status_at, status_of};
 use std::alloc::Global;
 use zone_outside::{Exchange, send_all};
-use zone_pieces::StreamEnd;
 use zone_source::{Sink, Status, write_all};
+use zone_words::StreamEnd;
 
 /// Writes an answer.
 pub(crate) fn write_out<X: Exchange>(exchange: &mut X, bytes: &[u8]) -> Status

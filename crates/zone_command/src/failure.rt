@@ -3,9 +3,8 @@ ghost use Rattle.std.specs.Prelude.{◌≡◌, ◌++◌, ◌∷◌, [], IfOk};
 ghost use Rattle.zone_command.specs.{Failures.{errors_at, errors_of, file_line, status_at, status_of}, FailureShown.{failure_shown}};
 
 use std::alloc::{AllocError, Global};
-use zone_pieces::StreamEnd;
 use zone_source::Status;
-use zone_words::{WordFault, fault_line};
+use zone_words::{StreamEnd, WordFault, fault_line};
 
 /// Why a run has no answer.
 #[derive(Drop)]

@@ -13,9 +13,8 @@ use crate::times::asks_now;
 use civil_base::OffsetDateTime;
 use std::alloc::Global;
 use zone_outside::{Environment, Exchange, WallClock};
-use zone_pieces::StreamEnd;
 use zone_source::{Failed, ReadEnd, Shelf, fetch_all};
-use zone_words::{Asked, Task, read_words};
+use zone_words::{Asked, StreamEnd, Task, read_words};
 
 /// The source where nothing names one.
 const SYSTEM_SOURCE: &str = "/usr/share/zoneinfo/tzdata.zi";

@@ -3,7 +3,7 @@ ghost use Rattle.std.specs.Prelude.{◌≡◌, IfOk};
 ghost use Rattle.zone_command.specs.Refusals.{fault_words, name_words, told_line};
 
 use std::alloc::{AllocError, Global};
-use zone_replies::ReplyFault;
+use zone_texts::ReplyFault;
 
 /// A word in quotes, and what is told of it.
 ///

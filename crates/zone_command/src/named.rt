@@ -7,7 +7,7 @@ use crate::offset::offset_in;
 use crate::source::{Refusal, ZoneSource};
 use civil_base::{OffsetDateTime, PlainDateTime, UtcOffset};
 use std::alloc::{AllocError, Global};
-use zone_replies::{FixedZone, Force, ReplyZone};
+use zone_texts::{FixedZone, Force, ReplyZone};
 
 /// A zone by its name.
 #[derive(Drop)]

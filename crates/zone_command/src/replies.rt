@@ -2,16 +2,15 @@
 ghost use Rattle.std.specs.Prelude.{◌≡◌, [], map, is_some, IfOk, IfSome, Ok, Err};
 ghost use Rattle.civil_base.specs.{DateTimes.{instant}, Ranges.{is_in_years}};
 ghost use Rattle.zone_command.specs.{Answers.{IsReply}, Replies.{at_lines, convert_lines, instant_at, instants_at, list_lines}};
-ghost use Rattle.zone_moments.specs.Shown.{asked as asked_of};
-ghost use Rattle.zone_displays.specs.Rings.{rings_due};
-ghost use Rattle.zone_words.specs.TaskShown.{alarm_shown};
+ghost use Rattle.zone_words.specs.{TimesShown.{asked as asked_of}, TaskShown.{alarm_shown}};
+ghost use Rattle.zone_texts.specs.Rings.{rings_due};
 
 use civil_base::{OffsetDateTime, PlainDateTime};
 use std::alloc::Global;
-use zone_displays::add_rings;
-use zone_moments::Asked as Instant;
-use zone_replies::{ReplyFault, ReplyZone, Style, add_at_line, add_converted, add_list, local_of};
-use zone_words::Alarm;
+use zone_texts::{
+    ReplyFault, ReplyZone, Style, add_at_line, add_converted, add_list, add_rings, local_of,
+};
+use zone_words::{Alarm, AskedInstant as Instant};
 
 /// The instant that is asked for, at an instant.
 pub(crate) fn moment_of(asked: &Instant, now: &OffsetDateTime) -> OffsetDateTime

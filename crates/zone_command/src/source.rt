@@ -1,11 +1,10 @@
 //! What reads sources.
 ghost use Rattle.std.specs.Prelude.{◌≡◌, ℕ, Bool, List, ◌≤◌, length, map, Ok, Err, IfOk, IfErr};
 ghost use Rattle.zone_command.specs.{Answers.{Answer, IsAnswer, IsGiven}, Named.{Found}, Refusals.{IsTold}};
-ghost use Rattle.zone_displays.specs.SeenNames.{NameSeen, name_seen};
+ghost use Rattle.zone_texts.specs.SeenNames.{NameSeen, name_seen};
 
 use std::alloc::{AllocError, Global};
-use zone_displays::NameEntry;
-use zone_replies::ReplyZone;
+use zone_texts::{NameEntry, ReplyZone};
 
 /// Why a source or a zone is refused.
 #[derive(Drop)]

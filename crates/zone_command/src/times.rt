@@ -1,11 +1,9 @@
 //! Whether words ask for the instant at which they are read.
 ghost use Rattle.std.specs.{Prelude.{◌≡◌, is_none, map}, List.{list_any}};
 ghost use Rattle.zone_command.specs.Times.{asks_now};
-ghost use Rattle.zone_moments.specs.Shown.{asked};
-ghost use Rattle.zone_words.specs.TaskShown.{task_shown};
+ghost use Rattle.zone_words.specs.{TimesShown.{asked}, TaskShown.{task_shown}};
 
-use zone_moments::Asked as Instant;
-use zone_words::Task;
+use zone_words::{AskedInstant as Instant, Task};
 
 fn is_now(instant: &Instant) -> bool
     ensures { result ≡ is_none (asked instant.now) }

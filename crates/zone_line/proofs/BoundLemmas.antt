@@ -3,11 +3,8 @@ use Rattle.std.proofs.Common.{◌≡◌, ℕ, ◌+◌, ◌-◌, ◌*◌, ◌^◌
 use Rattle.std.proofs.lemmas.{Int.{ints}, Bool.{and_from, and_parts}, Grind.{common_steps}}
 use Rattle.std.specs.{Prelude.{option_map, option_and_then, if◌then◌else◌}, Char.{is_ascii_digit}, Option.{option_map_or, ok_or}, Str.Parse.{without_leading_sign, signed_digits_value}}
 use lib.Signed.{mag}
-use Rattle.zone_values.specs.{Bounds.{are_small_seconds, is_bounded_end, is_bounded_saving, is_bounded_info, is_bounded_rule, is_bounded_line}, Days.{is_day_of_month, has_day_of_month}, Faults.{Fault, refused}}
-use Rattle.zone_values.specs.{declared.fault.FaultKind.TheVariants.{CouldNotParseSaving, InvalidDaySpec, InvalidLineType}, Months.{month_field}, Weekdays.{weekday_field}, Years.{year_field}, Seconds.{seconds_of, with_type}}
-use Rattle.zone_values.specs.{Values.{SavingValue, InfoValue, RuleValue, LineValue}, declared.change.ChangeTime.{ChangeTime}, declared.day.DaySpec.{DaySpec}, declared.day.DaySpec.TheVariants.{Ordinal, LastOnOrBefore, FirstOnOrAfter}}
-use Rattle.zone_values.specs.declared.time.{TimeSpec.{TimeSpec}, TimeSpec.TheVariants.{Hours, HoursMinutes, HoursMinutesSeconds, Zero}, TimeSpecAndType.{TimeSpecAndType}, TimeType.{TimeType}, TimeType.TheVariants.{Wall, Standard, UTC}}
-use Rattle.zone_values.specs.Results as results
+use Rattle.zone_table.specs.{LineBounds.{are_small_seconds, is_bounded_end, is_bounded_saving, is_bounded_info, is_bounded_rule, is_bounded_line}, Days.{is_day_of_month, has_day_of_month}, Faults.{Fault, refused}, declared.fault.FaultKind.TheVariants.{CouldNotParseSaving, InvalidDaySpec, InvalidLineType}, Months.{month_field}, Weekdays.{weekday_field}, Years.{year_field}, Seconds.{seconds_of, with_type}, Values.{SavingValue, InfoValue, RuleValue, LineValue}, declared.change.ChangeTime.{ChangeTime}, declared.day.DaySpec.{DaySpec}, declared.day.DaySpec.TheVariants.{Ordinal, LastOnOrBefore, FirstOnOrAfter}, declared.time.{TimeSpec.{TimeSpec}, TimeSpec.TheVariants.{Hours, HoursMinutes, HoursMinutesSeconds, Zero}, TimeSpecAndType.{TimeSpecAndType}, TimeType.{TimeType}, TimeType.TheVariants.{Wall, Standard, UTC}}}
+use Rattle.zone_table.specs.Results as results
 use Rattle.zone_line.specs.{Clocks.{ClockTexts, clock_in, minute_clock}, Columns.{InfoTexts, RuleTexts}, DayColumns.{DayTexts, day_columns}}
 use Rattle.zone_line.specs.{Fields.{to_field, type_field, day_numbered, day_of_month, sided_day, last_weekday, after_last, day_field, time_field, wall_field, is_ruleset_name}, Kinds.{LineKind, kind_of}}
 use Rattle.zone_line.specs.{LineValues.{one_off_of, saving_field, until, has_yearless_end, some_end, end_of, info_of, rule_of, value_of_kind, value}, Digits.{two_digits, digit_of}, Options.{first_some}}

@@ -1,8 +1,7 @@
 -- Of several columns without a value, the first in the order of reading is the fault.
 use Rattle.std.{proofs.Common.{◌≡◌, ℕ, List, [], ◌∷◌, Option, Some, None, Result, Ok, Err, refl}, specs.Prelude.{option_map, ok_or}}
-use Rattle.zone_values.specs.{Faults.{Fault, refused}, Months.{month_field}, Weekdays.{weekday_field}, Years.{year_field}, Seconds.{with_type}, Values.{one_off}}
-use Rattle.zone_values.specs.declared.{fault.FaultKind.TheVariants.{InvalidDaySpec, InvalidTimeSpecAndType, NonWallClockInTimeSpec}, time.TimeSpec.{TimeSpec}, time.TimeSpecAndType.{TimeSpecAndType}}
-use Rattle.zone_values.specs.Results as results
+use Rattle.zone_table.specs.{Faults.{Fault, refused}, Months.{month_field}, Weekdays.{weekday_field}, Years.{year_field}, Seconds.{with_type}, Values.{one_off}, declared.{fault.FaultKind.TheVariants.{InvalidDaySpec, InvalidTimeSpecAndType, NonWallClockInTimeSpec}, time.TimeSpec.{TimeSpec}, time.TimeSpecAndType.{TimeSpecAndType}}}
+use Rattle.zone_table.specs.Results as results
 use Rattle.zone_line.specs.{Clocks.{ClockTexts, minute_clock}, Columns.{InfoTexts, RuleTexts}, DayColumns.{DayTexts}, Fields.{to_field, type_field, day_field, time_field, wall_field, sided_day, day_of_month}}
 use Rattle.zone_line.specs.{LineValues.{one_off_of, saving_field, until, end_of, info_of, rule_of}, Options.{first_some}, Times.{no_time, hours_alone, clock_time, clock_type, if_wall, time_of}}
 

@@ -1,9 +1,7 @@
 -- The texts of columns by the groups that take them, and the values of lines by the texts of their columns, at worked rows. No pattern
 -- is computed: each group is given its part.
 use Rattle.std.{proofs.Common.{◌≡◌, ◌==◌, ℕ, List, [], ◌∷◌, get_or, map, Option, Some, None, Ok, Err, refl, pos, negsuc}, specs.Prelude.{bytes_eq, codes, if◌then◌else◌}, specs.List.{slice_split}}
-use Rattle.zone_values.specs.{Faults.{refused}, Months.{month_named}, Seconds.{with_type}, Values.{one_off, multiple, InfoValue, space, zone, continuation, rule, link}, Years.{year_named}, declared.change.ChangeTime.TheVariants.{UntilMonth}}
-use Rattle.zone_values.specs.declared.{day.DaySpec.TheVariants.{Ordinal}, fault.FaultKind.TheVariants.{FailedYearParse, FailedMonthParse, InvalidLineType, TypeColumnContainedNonHyphen, InvalidDaySpec, InvalidTimeSpecAndType, NonWallClockInTimeSpec}}
-use Rattle.zone_values.specs.declared.{month.Month.TheVariants.{March}, time.TimeSpec.TheVariants.{Hours, HoursMinutes}, time.TimeType.TheVariants.{Wall}, year.Year.TheVariants.{Number}}
+use Rattle.zone_table.specs.{Faults.{refused}, Months.{month_named}, Seconds.{with_type}, Values.{one_off, multiple, InfoValue, space, zone, continuation, rule, link}, Years.{year_named}, declared.change.ChangeTime.TheVariants.{UntilMonth}, declared.{day.DaySpec.TheVariants.{Ordinal}, fault.FaultKind.TheVariants.{FailedYearParse, FailedMonthParse, InvalidLineType, TypeColumnContainedNonHyphen, InvalidDaySpec, InvalidTimeSpecAndType, NonWallClockInTimeSpec}, month.Month.TheVariants.{March}, time.TimeSpec.TheVariants.{Hours, HoursMinutes}, time.TimeType.TheVariants.{Wall}, year.Year.TheVariants.{Number}}}
 use Rattle.basics.specs.Numbers.{signed_in}
 use Rattle.zone_line.specs.{Clocks.{ClockTexts, minute_clock_of, second_clock_of}, Columns.{InfoTexts, RuleTexts, info_columns_of, zone_columns_of, rule_columns_of, link_columns_of}, DayColumns.{day_columns_of}, Digits.{two_digits}}
 use Rattle.zone_line.specs.{Fields.{day_field, wall_field, to_field}, LineValues.{one_off_of, saving_field, until, some_end, end_of, info_of, rule_of, value_of_kind}, Times.{clock_time, time_of}}

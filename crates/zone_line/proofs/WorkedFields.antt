@@ -1,9 +1,6 @@
 -- The definitions of fields at worked rows.
 use Rattle.std.{proofs.Common.{◌≡◌, ℕ, List, [], ◌∷◌, map, true, false, Option, Some, None, Ok, Err, refl, pos, negsuc}, specs.Prelude.{codes}}
-use Rattle.zone_values.specs.{Faults.{refused}, Months.{month_named}, Seconds.{with_type}, Values.{no_saving, multiple}, Weekdays.{weekday_named}, Years.{year_named}, declared.change.ChangeTime.TheVariants.{UntilYear, UntilMonth, UntilDay, UntilTime}}
-use Rattle.zone_values.specs.declared.{day.DaySpec.TheVariants.{Ordinal, Last, LastOnOrBefore, FirstOnOrAfter}, fault.FaultKind.TheVariants.{FailedWeekdayParse, InvalidLineType, TypeColumnContainedNonHyphen, InvalidDaySpec}}
-use Rattle.zone_values.specs.declared.{month.Month.TheVariants.{September}, time.TimeSpec.TheVariants.{Hours, HoursMinutes, HoursMinutesSeconds, Zero}, time.TimeType.TheVariants.{Wall, Standard, UTC}, weekday.Weekday.TheVariants.{Sunday, Friday}}
-use Rattle.zone_values.specs.declared.year.Year.TheVariants.{Maximum, Number}
+use Rattle.zone_table.specs.{Faults.{refused}, Months.{month_named}, Seconds.{with_type}, Values.{no_saving, multiple}, Weekdays.{weekday_named}, Years.{year_named}, declared.change.ChangeTime.TheVariants.{UntilYear, UntilMonth, UntilDay, UntilTime}, declared.{day.DaySpec.TheVariants.{Ordinal, Last, LastOnOrBefore, FirstOnOrAfter}, fault.FaultKind.TheVariants.{FailedWeekdayParse, InvalidLineType, TypeColumnContainedNonHyphen, InvalidDaySpec}, month.Month.TheVariants.{September}, time.TimeSpec.TheVariants.{Hours, HoursMinutes, HoursMinutesSeconds, Zero}, time.TimeType.TheVariants.{Wall, Standard, UTC}, weekday.Weekday.TheVariants.{Sunday, Friday}}, declared.year.Year.TheVariants.{Maximum, Number}}
 use Rattle.basics.specs.Numbers.{signed_in}
 use Rattle.zone_line.specs.{Clocks.{ClockTexts}, Columns.{InfoTexts}, DayColumns.{DayTexts}, Digits.{two_digits}, Fields.{to_field, type_field, letters_of, day_of_month, day_field, sided_day, last_weekday, wall_field, is_ruleset_name}}
 use Rattle.zone_line.specs.{LineValues.{saving_field, until, some_end, end_of}, Times.{no_time, hours_alone, clock_time, clock_type, if_wall, time_of}}

@@ -1,9 +1,7 @@
 -- The values of a line's columns, each a value or a fault.
 use Rattle.std.specs.{Prelude.{ℕ, ℤ, List, [], ◌∷◌, take, drop, Bool, ◌||◌, Option, Some, None, option_map, option_and_then, ok_or, Result, Ok, Err, codes, bytes_eq, nat_eq, if◌then◌else◌, ◌^◌}, Char.{is_ascii_alphabetic}, List.{list_all}}
 use Rattle.std.specs.Option.{option_map_or}
-use Rattle.zone_values.specs.{Days.{is_day_of_month}, Faults.{Fault, refused}, declared.fault.FaultKind.TheVariants.{TypeColumnContainedNonHyphen, InvalidDaySpec, InvalidTimeSpecAndType, NonWallClockInTimeSpec}, Results.{◌>>=◌}, Years.{year_field}}
-use Rattle.zone_values.specs.{Weekdays.{weekday_field}, declared.year.Year.{Year}, declared.weekday.Weekday.{Weekday}, declared.time.TimeSpec.{TimeSpec}, declared.time.TimeSpecAndType.{TimeSpecAndType}, declared.day.DaySpec.{DaySpec}}
-use Rattle.zone_values.specs.declared.day.DaySpec.TheVariants.{Ordinal, Last, LastOnOrBefore, FirstOnOrAfter}
+use Rattle.zone_table.specs.{Days.{is_day_of_month}, Faults.{Fault, refused}, declared.fault.FaultKind.TheVariants.{TypeColumnContainedNonHyphen, InvalidDaySpec, InvalidTimeSpecAndType, NonWallClockInTimeSpec}, Results.{◌>>=◌}, Years.{year_field}, Weekdays.{weekday_field}, declared.year.Year.{Year}, declared.weekday.Weekday.{Weekday}, declared.time.TimeSpec.{TimeSpec}, declared.time.TimeSpecAndType.{TimeSpecAndType}, declared.day.DaySpec.{DaySpec}, declared.day.DaySpec.TheVariants.{Ordinal, Last, LastOnOrBefore, FirstOnOrAfter}}
 use Rattle.basics.specs.Numbers.{is_numeral, signed_in}
 use Rattle.zone_line.specs.{Times.{time_of, if_wall}, DayColumns.{DayTexts, day_columns}}
 

@@ -1,16 +1,16 @@
 -- Definitions: what public clauses say.
-pub use Rattle.zone_values.specs.Bounds
-pub use Rattle.zone_values.specs.Days
-pub use Rattle.zone_values.specs.Ends
-pub use Rattle.zone_values.specs.Faults
-pub use Rattle.zone_values.specs.Months
-pub use Rattle.zone_values.specs.Names
+pub mod Bounds
+pub use Rattle.zone_table.specs.Days
+pub use Rattle.zone_table.specs.Ends
+pub use Rattle.zone_table.specs.Faults
+pub use Rattle.zone_table.specs.Months
+pub use Rattle.zone_table.specs.Names
 pub use Rattle.basics.specs.Numbers
-pub use Rattle.zone_values.specs.Results
-pub use Rattle.zone_values.specs.Seconds
-pub use Rattle.zone_values.specs.Values
-pub use Rattle.zone_values.specs.Weekdays
-pub use Rattle.zone_values.specs.Years
+pub use Rattle.zone_table.specs.Results
+pub use Rattle.zone_table.specs.Seconds
+pub use Rattle.zone_table.specs.Values
+pub use Rattle.zone_table.specs.Weekdays
+pub use Rattle.zone_table.specs.Years
 pub mod Texts
 pub mod Patterns
 pub mod Options

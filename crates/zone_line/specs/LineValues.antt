@@ -1,8 +1,6 @@
 -- The value of a line: tables from the texts of its columns to values; the first fault is the fault.
 use Rattle.std.specs.{Prelude.{ℕ, List, Bool, ◌||◌, Option, Some, None, is_some, ok_or, Result, Ok, Err, codes, bytes_eq, if◌then◌else◌}, Option.{option_map_or}}
-use Rattle.zone_values.specs.{Faults.{Fault, refused}, declared.fault.FaultKind.TheVariants.{InvalidLineType, CouldNotParseSaving, InvalidTimeSpecAndType, NonWallClockInTimeSpec}, Results.{◌>>=◌}, Seconds.{with_type}, Months.{month_field}, Years.{year_field}}
-use Rattle.zone_values.specs.{Values.{SavingValue, no_saving, one_off, multiple, InfoValue, RuleValue, LineValue, space, zone, continuation, rule, link}, declared.change.ChangeTime.{ChangeTime}}
-use Rattle.zone_values.specs.declared.change.ChangeTime.TheVariants.{UntilYear, UntilMonth, UntilDay, UntilTime}
+use Rattle.zone_table.specs.{Faults.{Fault, refused}, declared.fault.FaultKind.TheVariants.{InvalidLineType, CouldNotParseSaving, InvalidTimeSpecAndType, NonWallClockInTimeSpec}, Results.{◌>>=◌}, Seconds.{with_type}, Months.{month_field}, Years.{year_field}, Values.{SavingValue, no_saving, one_off, multiple, InfoValue, RuleValue, LineValue, space, zone, continuation, rule, link}, declared.change.ChangeTime.{ChangeTime}, declared.change.ChangeTime.TheVariants.{UntilYear, UntilMonth, UntilDay, UntilTime}}
 use Rattle.zone_line.specs.{Columns.{InfoTexts, RuleTexts}, Clocks.{ClockTexts, minute_clock}, Times.{clock_time, clock_type, if_wall}, Kinds.{LineKind, kind_of}, Fields.{to_field, type_field, day_field, time_field, wall_field, letters_of, is_ruleset_name}}
 use Rattle.zone_line.specs.Kinds as kind
 

@@ -2,8 +2,7 @@
 use Rattle.std.specs.{Prelude.{ℕ, ℤ, pos, neg_ℤ, List, [], ◌∷◌, Bool, ◌||◌, Option, Some, None, option_map, option_and_then, codes, bytes_eq, nat_eq, if◌then◌else◌, ◌^◌}, Char.{is_ascii_digit}, List.{list_all, list_any}, Option.{option_map_or}}
 use Rattle.zone_line.specs.{Options.{◌>>=◌, first_some}, Digits.{two_digits}, Clocks.{ClockTexts, clock_in}}
 use Rattle.basics.specs.Numbers.{signed_in}
-use Rattle.zone_values.specs.{Seconds.{with_type}, declared.time.TimeSpec.{TimeSpec}, declared.time.TimeSpec.TheVariants.{Hours, HoursMinutes, HoursMinutesSeconds, Zero}, declared.time.TimeType.{TimeType}}
-use Rattle.zone_values.specs.declared.time.{TimeType.TheVariants.{Wall, Standard, UTC}, TimeSpecAndType.{TimeSpecAndType}}
+use Rattle.zone_table.specs.{Seconds.{with_type}, declared.time.TimeSpec.{TimeSpec}, declared.time.TimeSpec.TheVariants.{Hours, HoursMinutes, HoursMinutesSeconds, Zero}, declared.time.TimeType.{TimeType}, declared.time.{TimeType.TheVariants.{Wall, Standard, UTC}, TimeSpecAndType.{TimeSpecAndType}}}
 
 -- a hyphen is no time at all
 abbrev pub no_time : List ℕ → Option TimeSpecAndType

@@ -2,11 +2,11 @@
 ghost use Rattle.std.specs.Prelude.{◌≡◌, ◌<◌, IfSome, option_map};
 ghost use Rattle.zone_line.specs.{Digits.{digit_of, two_digits}, Fields.{to_field, type_field, letters_of, after_last, day_numbered, day_of_month, is_ruleset_name}, Times.{no_time, hours_alone, is_bare, signed, clock_type, clock_time, if_wall}};
 ghost use Rattle.zone_line.specs.Shown.{clock_shown};
-ghost use Rattle.zone_values.specs.Faults.{told};
+ghost use Rattle.zone_table.specs.Faults.{told};
 
 use crate::columns::ClockColumns;
 use basics::{i8_in, is_numeral};
-use zone_values::{Fault, FaultKind, TimeSpec, TimeSpecAndType, TimeType, Year};
+use zone_table::{Fault, FaultKind, TimeSpec, TimeSpecAndType, TimeType, Year};
 
 /// The value of one or two ASCII digits.
 #[tactic(auto, unfolding(crate::specs::Digits::two_digits))]

@@ -11,7 +11,8 @@ mod reader;
 
 pub use parser::{LineParser, NotBuilt};
 pub use reader::LineReader;
-pub use zone_values::{
-    ChangeTime, DaySpec, Error, Fault, FaultKind, Line, Link, Month, Rule, Saving, TimeSpec,
-    TimeSpecAndType, TimeType, Weekday, Year, Zone, ZoneInfo,
+pub use zone_table::{
+    ChangeTime, DaySpec, Fault, FaultKind, Line, LineError as Error, LineInfo as ZoneInfo,
+    LineSaving as Saving, Link, Month, Rule, TimeSpec, TimeSpecAndType, TimeType, Weekday, Year,
+    Zone,
 };

@@ -6,7 +6,7 @@ ghost use Rattle.regex.specs.Lending.{KeepsTextPattern};
 use crate::reader::LineReader;
 use regex::{Captures, Matcher, Regex};
 use std::alloc::{AllocError, Global};
-use zone_values::{Error, Line};
+use zone_table::{Line, LineError as Error};
 
 /// A blank line, or a comment.
 pub(crate) const EMPTY: &str = r"^\s*(#.*)?$";
@@ -103,7 +103,7 @@ pub struct LineParser {
 
 impl LineParser {
     ghost use Rattle.std.specs.Prelude.{IfOk, IsTrue};
-    ghost use Rattle.zone_values.specs.{Bounds.{is_bounded_line}, Faults.{Tells}, Values.{line_value}};
+    ghost use Rattle.zone_table.specs.{LineBounds.{is_bounded_line}, Faults.{Tells}, Values.{line_value}};
     ghost use Rattle.zone_line.specs.LineValues.{value};
 
     /// Compiles the patterns of the lines and of their columns, all of them. That each is the one

@@ -3,7 +3,7 @@ ghost use Rattle.std.specs.{Prelude.{◌≡◌, ℕ, List, option_map, IfOk, IsT
 ghost use Rattle.zone_line.specs.Kinds.{is_plainly_blank, is_no_feed};
 ghost use Rattle.zone_line.specs.{Patterns.{Searches, found_in}, Texts.{empty_text, zone_text, continuation_text, rule_text, link_text, day_text, hm_text, hms_text}, Fields.{sided, sided_day, last_weekday}, LineValues.{one_off_of}};
 ghost use Rattle.zone_line.specs.Shown.{clock_shown, day_shown};
-ghost use Rattle.zone_values.specs.{Faults.{told}, Values.{saving_value}};
+ghost use Rattle.zone_table.specs.{Faults.{told}, Values.{saving_value}};
 
 use crate::columns::{
     ClockColumns, Columns, DayColumns, InfoColumns, Kind, LinkColumns, MinuteClock, RuleColumns,
@@ -17,9 +17,10 @@ use crate::parser::{LineParser, matcher};
 use basics::is_numeral;
 use regex::Matcher;
 use std::alloc::{AllocError, Global};
-use zone_values::{
-    ChangeTime, DaySpec, Error, Fault, FaultKind, Line, Link, Month, Rule, Saving, TimeSpec,
-    TimeSpecAndType, Weekday, Year, Zone, ZoneInfo, value_or_fault,
+use zone_table::{
+    ChangeTime, DaySpec, Fault, FaultKind, Line, LineError as Error, LineInfo as ZoneInfo,
+    LineSaving as Saving, Link, Month, Rule, TimeSpec, TimeSpecAndType, Weekday, Year, Zone,
+    value_or_fault,
 };
 
 /// Reads lines with matchers that are made once, by `LineParser::reader`.
@@ -137,7 +138,7 @@ impl<'p> LineReader<'p> {
 }
 
 impl LineReader<'_> {
-    ghost use Rattle.zone_values.specs.{Bounds.{is_bounded_line}, Faults.{Tells, told}, Values.{line_value, info_value, rule_value}};
+    ghost use Rattle.zone_table.specs.{LineBounds.{is_bounded_line}, Faults.{Tells, told}, Values.{line_value, info_value, rule_value}};
     ghost use Rattle.zone_line.specs.{Kinds.{kind_of}, LineValues.{value, value_of_kind, info_of, end_of, until, rule_of}, Shown.{info_shown, rule_shown, zone_shown, kind_shown}};
 
     /// Reads one line, as `LineParser::parse_str` does.
@@ -318,7 +319,7 @@ impl LineReader<'_> {
 
 impl LineReader<'_> {
     ghost use Rattle.zone_line.specs.{Clocks.{clock_in}, Fields.{time_field, wall_field, day_field}, LineValues.{saving_field}, Times.{time_of}, Shown.{clock_shown}};
-    ghost use Rattle.zone_values.specs.{Faults.{told}, Values.{saving_value}};
+    ghost use Rattle.zone_table.specs.{Faults.{told}, Values.{saving_value}};
 
     /// The parts of a time with one colon or two.
     fn clock<'a>(&mut self, text: &'a str) -> Option<ClockColumns<'a>>

@@ -1,7 +1,7 @@
 -- Windows, rows, dates and words, at worked rows.
 use Rattle.std.{proofs.Common.{◌≡◌, ℕ, List, [], ◌∷◌, ◌++◌, map, true, false, Some, None, refl, ℤ, pos, negsuc}, specs.Prelude.{codes}, specs.Fmt.{char_count, digits}}
 use Rattle.civil_base.specs.Layout.{zoned_text}
-use Rattle.tz_zone.specs.declared.set.FixedTimespanSet.{FixedTimespanSet}
+use Rattle.tz_lookup.specs.declared.set.FixedTimespanSet.{FixedTimespanSet}
 use Rattle.zone_source.specs.LineLists.{ended}
 use Rattle.zone_spans.specs.Entries.{Entry}
 use Rattle.zone_list.specs.{Asks.{asks, form}, Ranges.{all_have_dates, has_dates}, Rows.{row, rows}, Windows.{window, within}}

@@ -3,7 +3,7 @@ use Rattle.std.proofs.Common.{◌≡◌, ℕ, zero, suc, ◌+◌, ◌<◌, Bool,
 use Rattle.std.specs.{Fmt.{char_count}, List.{slice_index_or}, Prelude.{◌&&◌, max, Option, Some, None, IfSome}}
 use Rattle.civil_base.specs.{DateTimes.{instant, offset_of}, Instants.{local_at, nanos_of}, Ranges.{is_in_years}, declared.offset_date_time.OffsetDateTime.{OffsetDateTime}}
 use Rattle.zone_spans.specs.{Entries.{Entry, total}, declared.span.FixedTimespan.{FixedTimespan}}
-use Rattle.tz_zone.specs.{Sets.{shift_of, total_of_span}, Spans.{shift_at}, declared.set.FixedTimespanSet.{FixedTimespanSet}}
+use Rattle.tz_lookup.specs.{Sets.{shift_of, total_of_span}, Spans.{shift_at}, declared.set.FixedTimespanSet.{FixedTimespanSet}}
 use Rattle.zone_list.{specs.Ranges.{all_have_dates, has_dates}, specs.Rows.{row, widest}, specs.ShownEntries.{IsShownAs}, specs.Windows.{entry_at, is_within, within}, proofs.WindowLaws.{one_more, no_more}}
 
 -- what is left of a window from a place on

@@ -2,7 +2,7 @@
 use Rattle.std.{specs.Prelude.{◌≡◌, ℕ, suc, Bool, true, false, List, [], ◌∷◌, ◌++◌, length, map, ℤ, ◌≤ℤ◌, ◌<ℤ◌, int_lt, refl}, proofs.Common.{cond, sym, ap, ◌∙◌, arith, ◌&&◌, ◌<◌}, proofs.lemmas.Int.{ints}}
 use Rattle.basics.specs.ComparisonLaws.{le_pass, le_fail, lt_pass, lt_fail, lt_from_pass, lt_from_fail}
 use Rattle.zone_spans.specs.Entries.{Entry}
-use Rattle.tz_zone.specs.{Sets.{shift_of, shifts_of}, Spans.{shift_at, TimesDontFall}, declared.set.FixedTimespanSet.{FixedTimespanSet}}
+use Rattle.tz_lookup.specs.{Sets.{shift_of, shifts_of}, Spans.{shift_at, TimesDontFall}, declared.set.FixedTimespanSet.{FixedTimespanSet}}
 use Rattle.zone_list.specs.Windows.{is_within, within, window}
 
 -- no entry lies before the second

@@ -1,7 +1,7 @@
 -- The entries of a set in a window of time.
 use Rattle.std.specs.Prelude.{ℕ, suc, Bool, ◌&&◌, List, filter, ℤ, int_le, int_lt}
 use Rattle.zone_spans.specs.Entries.{Entry}
-use Rattle.tz_zone.specs.{Sets.{shifts_of, span_in}, Spans.{shift_at}, declared.set.FixedTimespanSet.{FixedTimespanSet}}
+use Rattle.tz_lookup.specs.{Sets.{shifts_of, span_in}, Spans.{shift_at}, declared.set.FixedTimespanSet.{FixedTimespanSet}}
 
 -- a time from the first second on, and before the other
 abbrev pub is_within : ℤ → ℤ → Entry → Bool

@@ -1,6 +1,6 @@
 //! The rows of a window.
 ghost use Rattle.std.specs.Prelude.{◌≡◌, ◌<◌, [], ◌∷◌, ◌++◌, IfOk, IsErrOf, OnOk, length, true, false};
-ghost use Rattle.tz_zone.specs.Sets.{schedule_of, IsAccepted};
+ghost use Rattle.tz_lookup.specs.Sets.{schedule_of, IsAccepted};
 ghost use Rattle.zone_list.specs.{Ranges.{all_have_dates, has_dates}, Rows.{row, rows}, Windows.{entry_at, window}};
 
 use crate::row::{date_time_at, write_row};

@@ -40,7 +40,7 @@ impl ZoneProgram for Window {
 
 impl Window {
     ghost use Rattle.std.specs.Prelude.{◌≡◌, map, option_map, string_bytes};
-    ghost use Rattle.tz_zone.specs.Sets.{IsAccepted, schedule_of};
+    ghost use Rattle.tz_lookup.specs.Sets.{IsAccepted, schedule_of};
     ghost use Rattle.zone_list.specs.Asks.{asks, window_in};
     ghost use Rattle.zone_run.specs.Asked.{Answers};
 

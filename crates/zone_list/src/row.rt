@@ -3,7 +3,7 @@ ghost use Rattle.std.specs.{Prelude.{◌≡◌, ◌<◌, ◌++◌, IfSome, OnOk,
 ghost use Rattle.civil_base.specs.{DateTimes.{instant, offset_of as offset_shown}, Layout.{zoned_text}};
 ghost use Rattle.pad_fmt.specs.{Padding.{padded}, declared.options.Alignment.TheVariants.{Left}};
 ghost use Rattle.zone_list.specs.{Ranges.{has_dates}, Rows.{on_the_left, on_the_right, row}, Columns.{on_side}, ShownEntries.{IsShownAs}, Windows.{entry_at}};
-ghost use Rattle.tz_zone.specs.Sets.{schedule_of, IsAccepted};
+ghost use Rattle.tz_lookup.specs.Sets.{schedule_of, IsAccepted};
 
 use crate::row_text::RowText;
 use crate::widths::Widths;
@@ -11,8 +11,7 @@ use civil_base::{OffsetDateTime, write_zoned};
 use itoa::Buffer;
 use pad_fmt::{Alignment, FormatterOptions, Full, char_count, pad_with_width};
 use std::alloc::AllocError;
-use tz_lookup::SpanTable;
-use tz_zone::offset_of;
+use tz_lookup::{SpanTable, offset_of};
 
 /// The time of the entry at a place, at its own total offset, if its UTC date and its local date lie in the years -9999 to 9999.
 pub(crate) fn date_time_at<S: SpanTable>(set: &S, place: usize) -> Option<OffsetDateTime>

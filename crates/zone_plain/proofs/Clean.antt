@@ -1,7 +1,7 @@
 -- Lines of which each needs nothing where it stands.
 use Rattle.std.specs.{Prelude.{◌≡◌, ℕ, List, [], ◌∷◌, ◌++◌, Bool, true, false, Option, Some, None, bytes_eq, flat_map, option_to_list}, List.{list_any}}
-use Rattle.zone_values.specs.Values.{LineValue, zone, continuation, link}
-use Rattle.zone_plain_base.specs.Said.{is_said}
+use Rattle.zone_table.specs.Values.{LineValue, zone, continuation, link}
+use Rattle.zone_plain_lines.specs.Said.{is_said}
 use Rattle.zone_plain.specs.{Declares.{has_zone}, Needs.{NeedsNothing}, Settled.{lacks_rules}}
 
 -- the new name that a link gives

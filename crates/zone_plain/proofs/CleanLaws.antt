@@ -3,10 +3,9 @@ use Rattle.std.proofs.{Common.{◌≡◌, ℕ, suc, ◌+◌, ◌≤◌, List, []
 use Rattle.std.proofs.lemmas.{Bool.{le-ltb, or_parts}, List.Elements.{All-nil, All-cons, All-head, All-tail}, List.Folds.{list_any-append}, List.Sums.{sum_by-cons}}
 use Rattle.std.specs.{Prelude.{bytes_eq, option_to_list, unwrap_or, ◌||◌}, List.{sum_by}, Option.{option_or}}
 use Rattle.zone_outside.specs.Limit.{text_limit}
-use Rattle.zone_values.specs.{Values.{InfoValue, LineValue, zone, continuation, link}, Results.{◌>>=◌}}
-use Rattle.zone_plain_lines.specs.declared.cause.PlainCause.{PlainCause}
+use Rattle.zone_table.specs.{Values.{InfoValue, LineValue, zone, continuation, link}, Results.{◌>>=◌}}
+use Rattle.zone_plain_lines.specs.{declared.cause.PlainCause.{PlainCause}, LineFaults.{onto}, Said.{is_said, if_said}}
 use Rattle.zone_plain_lines.specs.declared.cause.PlainCause.TheVariants as cause
-use Rattle.zone_plain_base.specs.{LineFaults.{onto}, Said.{is_said, if_said}}
 use Rattle.zone_plain.proofs.{Clean.{new_name, names_by, has, AreFresh, IsSound, AreClean}, LeadsLaws.{is_zone_behind}, SettledSaidLaws.{if_said_is}}
 use Rattle.zone_plain.proofs.SettledLaws.{ok_is, no_ok, Becomes, as_link, as_nothing, becomes, continuation_is, zone_is, Steps, steps, line_stays, step_stays}
 use Rattle.zone_plain.specs.{Declares.{zone_name, ruleset_name, is_that, declares, has_zone, target_of}, Needs.{NeedsNothing, IsPlain}, Settled.{lacks_rules, link_after, settled_link, settled_line, link_size, settled_from, settled}}

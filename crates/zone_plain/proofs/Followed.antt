@@ -1,6 +1,6 @@
 -- Lines of zones in their places, each where one has to follow.
 use Rattle.std.specs.Prelude.{List, [], ◌∷◌, Bool, false, not, is_some, ◌&&◌}
-use Rattle.zone_values.specs.Values.{LineValue, space, zone, continuation}
+use Rattle.zone_table.specs.Values.{LineValue, space, zone, continuation}
 
 -- a zone's line with an end is followed by one more of the zone, and no other line of a zone is, with blank lines at most between; the
 -- first one by what is told

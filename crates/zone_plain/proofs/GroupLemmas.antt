@@ -1,7 +1,7 @@
 -- Rules by their names, so far and in all.
 use Rattle.std.{proofs.Common.{◌≡◌, ℕ, suc, ◌+◌, ◌<◌, ◌≤◌, List, [], ◌∷◌, ◌++◌, length, get_or, drop, refl, sym, ap, ◌∙◌, append_assoc, append-nil, arith, cond}, specs.FinMap.{FinMap, get, empty, get-empty}, proofs.lemmas.List.{drop_all, drop_more}}
 use Rattle.basics.specs.{Keyed.{text_cmp}, KeyedLaws.{appended}, Listed.{listed}}
-use Rattle.zone_values.specs.Values.{LineValue, space, rule}
+use Rattle.zone_table.specs.Values.{LineValue, space, rule}
 use Rattle.zone_plain.specs.ToldOffsets.{is_named, places_from, IsGrouped, with_place}
 
 -- the map has the places of the rules so far, and those that are left make all

@@ -1,8 +1,7 @@
 -- What is written by parts joins to the rulesets, the zones and the links of the lines as they stood.
 use Rattle.std.proofs.{Common.{◌≡◌, ℕ, List, [], ◌∷◌, ◌++◌, Bool, true, false, cond, Option, Some, None, filter, flat_map, reverse, refl, sym, ap, ◌∙◌, append_assoc, append-nil}, lemmas.Bool.{both_ways, and_parts}, lemmas.List.{reverse-append}}
 use Rattle.std.specs.{Prelude.{bytes_eq}, Option.{option_or, option_map_or}}
-use Rattle.zone_values.specs.Values.{LineValue, space, zone, continuation, rule, link}
-use Rattle.zone_table.specs.{Joined.{rules_of, owner, is_owner, zone_of, link_of}, Owned.{owned_rule, owned_info}, declared.rule.RuleInfo.{RuleInfo}, declared.zone.ZoneInfo.{ZoneInfo}}
+use Rattle.zone_table.specs.{Values.{LineValue, space, zone, continuation, rule, link}, Joined.{rules_of, owner, is_owner, zone_of, link_of}, Owned.{owned_rule, owned_info}, declared.rule.RuleInfo.{RuleInfo}, declared.zone.ZoneInfo.{ZoneInfo}}
 use Rattle.zone_plain.{proofs.TargetLaws.{or_none, or_assoc}, proofs.PartLemmas.{GivesIn, parts_give}, proofs.Placed.{are_placed}, specs.Written.{Rules, Zones, Links, is_in}, specs.WrittenLines.{in_parts, JoinAlike}}
 
 -- the first of some lines, behind those before it

@@ -3,10 +3,9 @@ use Rattle.std.proofs.{Common.{◌≡◌, ℕ, suc, List, [], ◌∷◌, ◌++�
 use Rattle.zone_line.specs.Fields.{is_ruleset_name}
 use Rattle.zone_outside.specs.Limit.{text_limit}
 use Rattle.zone_source.specs.Lines.{lines_of}
-use Rattle.zone_values.specs.{Values.{SavingValue, multiple, LineValue, zone, continuation, rule}, Results.{◌>>=◌}}
-use Rattle.zone_plain_lines.specs.declared.cause.PlainCause.{PlainCause}
+use Rattle.zone_table.specs.{Values.{SavingValue, multiple, LineValue, zone, continuation, rule}, Results.{◌>>=◌}}
+use Rattle.zone_plain_lines.specs.{declared.cause.PlainCause.{PlainCause}, LineFaults.{LineFault, at, bad_line, too_long, numbered, onto}, Said.{if_said}, Names.{said_name}, NameLaws.{stays_so}, Renamed.{saved_by, ruleset_of, saving_by, under, renamed}}
 use Rattle.zone_plain_lines.specs.declared.cause.PlainCause.TheVariants as cause
-use Rattle.zone_plain_base.specs.{LineFaults.{LineFault, at, bad_line, too_long, numbered, onto}, Said.{if_said}, Names.{said_name}, NameLaws.{stays_so}, Renamed.{saved_by, ruleset_of, saving_by, under, renamed}}
 use Rattle.zone_plain.specs.{Needs.{IsPlain}, Settled.{settled}, Made.{changed_by, changed, is_changed_said, name_in, made_for, made}, Pairs.{Pair, joined_by, pairs_from}, WrittenOut.{made_size, refused_from, written_unless, written_out}, Heads.{head_of}}
 use Rattle.zone_plain.specs.{Kept.{HasNoOffsets}, LineValues.{line_meaning, is_open_after, values_from, meant_in, mark_in, named, values_in}, Named.{IsSaidAsMeant}, Plain.{plain_of}, Written.{written}}
 use Rattle.zone_plain.proofs.CleanLaws.{plain_stays}

@@ -2,7 +2,7 @@
 use Rattle.std.proofs.{Common.{◌≡◌, ℕ, suc, ◌+◌, ◌≤◌, List, length, Bool, true, false, cond, Option, Some, None, refl, sym, ap, ◌∙◌, subst, arith, rules}, lemmas.Option.{none-some, same_Some}}
 use Rattle.std.specs.{Prelude.{bytes_eq, is_some}, Option.{option_or}, FinMap.{FinMap, get, insert}, Cmp.Lexicographic.{bytes_decides}}
 use Rattle.basics.specs.{Keyed.{text_cmp}, KeyedLaws.{get-inserted}}
-use Rattle.zone_values.specs.Values.{LineValue}
+use Rattle.zone_table.specs.Values.{LineValue}
 use Rattle.zone_plain.specs.{Declares.{has_zone, target_of}, Leads.{leads_to, zone_behind}, Stands.{names_of, IsPlaced, IsDeclared, IsKept, IsKnown, IsBehind, LeadsTo}, declared.links.Declared.{Declared}}
 use Rattle.zone_plain.proofs.LeadsLaws.{followed, stuck, dead_end, rises, is_behind, behind_itself, behind_link}
 

@@ -1,7 +1,7 @@
 -- Where names lead, however many links are followed.
 use Rattle.std.proofs.{Common.{◌≡◌, ℕ, zero, suc, ◌≤◌, ◌<◌, List, [], ◌∷◌, length, Bool, true, false, cond, Option, Some, None, refl, sym, ap, ◌∙◌, subst, arith, rules}, lemmas.Option.{same_Some}}
 use Rattle.std.specs.{Prelude.{bytes_eq, option_and_then, ◌||◌}, Option.{option_or}, Cmp.Lexicographic.{bytes_decides}}
-use Rattle.zone_values.specs.{LogicLaws.{no_case}, Values.{LineValue, space, link}}
+use Rattle.zone_table.specs.{LogicLaws.{no_case}, Values.{LineValue, space, link}}
 use Rattle.zone_plain.{proofs.Clean.{new_name, names_by, has}, specs.Declares.{has_zone, target_of}, specs.Leads.{leads, leads_to, zone_behind}}
 
 no_some : {A : Type 0} {x : List ℕ} → None ≡ Some x → A

@@ -1,8 +1,8 @@
 -- What a line means, step by step.
 use Rattle.std.{proofs.Common.{◌≡◌, ℕ, List, [], ◌∷◌, ◌++◌, Bool, false, true≢false, cond, Ok, Err, sym, ap, subst, ◌∙◌}, specs.Prelude.{Option, Some, None, is_some, option_map, option_to_list}}
-use Rattle.zone_values.specs.{Values.{LineValue, line_value, space}, declared.line.Line.{Line}, declared.line.Line.TheVariants.{Space}, Results.{◌>>=◌}}
+use Rattle.zone_table.specs.{Values.{LineValue, line_value, space}, declared.line.Line.{Line}, declared.line.Line.TheVariants.{Space}, Results.{◌>>=◌}}
 use Rattle.zone_plain_lines.specs.declared.cause.PlainCause.TheVariants as cause
-use Rattle.zone_plain_base.specs.{Said.{is_said, if_said}, Told.{IsToldBy, IsRefused}, declared.error.Refused.{Refused}, declared.error.Refused.TheVariants.{Cause, NoMemory}, Renamed.{renamed}, PlainTexts.{plain_text}}
+use Rattle.zone_plain_lines.specs.{Said.{is_said, if_said}, Told.{IsToldBy, IsRefused}, declared.error.Refused.{Refused}, declared.error.Refused.TheVariants.{Cause, NoMemory}, Renamed.{renamed}, PlainTexts.{plain_text}}
 use Rattle.zone_plain.specs.{LineValues.{line_meaning, named}, Told.{IsAddedLine, added_line}}
 
 -- the cause that was told of a line

@@ -1,9 +1,9 @@
 -- What becomes of a line, by what was found of it.
 use Rattle.std.proofs.{Common.{◌≡◌, ℕ, List, [], ◌∷◌, ◌++◌, Bool, true, false, not, Option, Some, None, Ok, Err, refl, sym, ap, ◌∙◌, subst, rules}, lemmas.Option.{same_Some}}
 use Rattle.std.specs.{Prelude.{bytes_eq, is_some, option_map, unwrap_or, ◌||◌, if◌then◌else◌}, FinMap.{get, insert, contains_key}}
-use Rattle.zone_values.specs.Values.{LineValue, InfoValue, RuleValue, multiple, space, zone, continuation, rule, link}
+use Rattle.zone_table.specs.Values.{LineValue, InfoValue, RuleValue, multiple, space, zone, continuation, rule, link}
 use Rattle.zone_plain_lines.specs.declared.cause.PlainCause.TheVariants as cause
-use Rattle.zone_plain_base.specs.{PlainTexts.{plain_text}, Said.{is_said}, declared.error.Refused.{Refused}, declared.error.Refused.TheVariants.{Cause, NoMemory}, Told.{IsRefused}}
+use Rattle.zone_plain_lines.specs.{PlainTexts.{plain_text}, Said.{is_said}, declared.error.Refused.{Refused}, declared.error.Refused.TheVariants.{Cause, NoMemory}, Told.{IsRefused}}
 use Rattle.zone_plain.proofs.{NameLemmas.{declares-more, declares-other, contains-inserted, link_known}, TargetLaws.{target-other}}
 use Rattle.zone_plain.specs.{Declares.{zone_name, has_zone, target_by, target_of}, Settled.{lacks_rules, link_to, link_after, settled_link, settled_line}, Stands.{names_of, IsPlaced, IsDeclared, IsKnown, AddsTarget, LeadsTo, IsAt, IsLinkText, line_at_place}}
 use Rattle.zone_plain.specs.declared.links.{Declared.{Declared}, Seen.{Seen}}

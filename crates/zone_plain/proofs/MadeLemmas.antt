@@ -4,7 +4,7 @@ use Rattle.std.proofs.lemmas.List.{drop_all, drop_more, length-map}
 use Rattle.std.specs.{Prelude.{◌&&◌, flat_map, bytes_eq}, List.{list_all}, FinMap.{FinMap, get}}
 use Rattle.basics.specs.{Keyed.{text_cmp}, Listed.{listed}}
 use Rattle.zone_plain.specs.{Written.{line_text}, Pairs.{Pair}, Made.{rules_named, made_rule, is_rule_said, rules_for, are_rules_said}, ToldOffsets.{value_in, places_from, IsGrouped, AreAdded, made_lines, is_made_said}}
-use Rattle.zone_values.specs.Values.{RuleValue, LineValue, space, rule}
+use Rattle.zone_table.specs.Values.{RuleValue, LineValue, space, rule}
 
 shifted : (at k : ℕ) → suc at + k ≡ at + suc k
 shifted at k = omega arith

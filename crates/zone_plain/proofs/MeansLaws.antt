@@ -1,9 +1,8 @@
 -- Read as a source in any form, what is written means what was meant.
 use Rattle.std.{proofs.Common.{◌≡◌, ℕ, suc, List, [], ◌∷◌, map, All, Bool, true, false, Ok, refl, sym, ap, ◌∙◌}, specs.Prelude.{is_some}, specs.Str.{is_utf8, chars}, proofs.lemmas.Bool.{both_ways}, proofs.lemmas.List.Elements.{All-head, All-tail}}
 use Rattle.zone_source.specs.Releases.{line_naming}
-use Rattle.zone_values.specs.Values.{LineValue, space, zone, continuation, rule, link}
-use Rattle.zone_plain_lines.specs.{Meanings.{meaning}, Quotes.{fields, laid_out, pieces, has_bad_quotes}}
-use Rattle.zone_plain_base.specs.{LineFaults.{onto}, Meant.{line_meaning, is_next}, SaidLaws.{meant_back}, PlainTexts.{plain_text}}
+use Rattle.zone_table.specs.Values.{LineValue, space, zone, continuation, rule, link}
+use Rattle.zone_plain_lines.specs.{Meanings.{meaning}, Quotes.{fields, laid_out, pieces, has_bad_quotes}, LineFaults.{onto}, Meant.{line_meaning, is_next}, SaidLaws.{meant_back}, PlainTexts.{plain_text}}
 use Rattle.zone_plain.{proofs.Followed.{are_followed}, specs.LineValues.{is_open_after, values_from}, specs.Named.{IsSaid}}
 
 -- a blank line means nothing, wherever it stands

@@ -1,9 +1,8 @@
 -- The names of the lines that were met, and the lines that are left.
 use Rattle.std.proofs.{Common.{◌≡◌, ℕ, suc, List, [], ◌∷◌, ◌++◌, map, Bool, true, false, Result, Ok, Err, refl, sym, ap, ◌∙◌, append-nil}, lemmas.Grind.{flat_map-append}, lemmas.List.{map-append}}
 use Rattle.zone_source.specs.Lines.{lines_of}
-use Rattle.zone_values.specs.{Results.{◌>>=◌}, Values.{LineValue}}
-use Rattle.zone_plain_lines.specs.declared.cause.PlainCause.{PlainCause}
-use Rattle.zone_plain_base.specs.{LineFaults.{LineFault}, Marks.{behind, tails, mark_behind}, Renamed.{ruleset_of, mark_of}}
+use Rattle.zone_table.specs.{Results.{◌>>=◌}, Values.{LineValue}}
+use Rattle.zone_plain_lines.specs.{declared.cause.PlainCause.{PlainCause}, LineFaults.{LineFault}, Marks.{behind, tails, mark_behind}, Renamed.{ruleset_of, mark_of}}
 use Rattle.zone_plain.{specs.LineValues.{line_meaning, is_open_after, values_from, meant_in, known, mark_in}, proofs.ReadingLemmas.{before, before_none, taken_on, refused_at, left_out, all_taken}}
 
 -- what stands behind the `_` in the names of these lines

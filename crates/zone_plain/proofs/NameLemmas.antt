@@ -3,7 +3,7 @@ use Rattle.std.proofs.{Common.{◌≡◌, ℕ, zero, suc, ◌+◌, ◌<◌, List
 use Rattle.std.proofs.lemmas.List.{get_or-map, length-map, take_more}
 use Rattle.std.specs.{Prelude.{bytes_eq, is_some, slice_get, ◌||◌, take, get_or}, Option.{option_or}, FinMap.{FinMap, get, insert, empty, get-empty, contains_key}, Cmp.Lexicographic.{bytes_decides}}
 use Rattle.basics.specs.{Keyed.{text_cmp}, KeyedLaws.{get-inserted}}
-use Rattle.zone_values.specs.{Values.{LineValue, InfoValue, RuleValue, line_value, space, zone, rule, link}, declared.line.Line.{Line}, declared.line.Line.TheVariants.{Space}}
+use Rattle.zone_table.specs.{Values.{LineValue, InfoValue, RuleValue, line_value, space, zone, rule, link}, declared.line.Line.{Line}, declared.line.Line.TheVariants.{Space}}
 use Rattle.zone_plain.specs.{Declares.{zone_name, ruleset_name, is_that, declares, has_zone, target_by, target_of}, Stands.{names_of, IsPlaced, IsDeclared, AddsTarget}, declared.links.Declared.{Declared}}
 use Rattle.zone_plain.proofs.TargetLaws.{target-more, or_none, target-other}
 

@@ -1,10 +1,9 @@
 -- The values of a source are what it means, under names that can be said.
 use Rattle.std.proofs.{Common.{◌≡◌, ℕ, suc, List, [], ◌∷◌, map, All, Bool, true, false, cond, Result, Ok, Err, IfOk, refl, ap, ◌∙◌, subst}, lemmas.List.Elements.{All-nil, All-cons}}
 use Rattle.zone_source.specs.Lines.{lines_of}
-use Rattle.zone_values.specs.{Values.{LineValue}, Results.{◌>>=◌}}
-use Rattle.zone_plain_lines.specs.declared.cause.PlainCause.{PlainCause}
+use Rattle.zone_table.specs.{Values.{LineValue}, Results.{◌>>=◌}}
+use Rattle.zone_plain_lines.specs.{declared.cause.PlainCause.{PlainCause}, LineFaults.{LineFault, numbered, onto}, Said.{is_said}, Renamed.{mark_of, renamed}}
 use Rattle.zone_plain_lines.specs.declared.cause.PlainCause.TheVariants as cause
-use Rattle.zone_plain_base.specs.{LineFaults.{LineFault, numbered, onto}, Said.{is_said}, Renamed.{mark_of, renamed}}
 use Rattle.zone_plain.specs.{LineValues.{line_meaning, is_open_after, values_from, meant_in, known, mark_in, named, values_in}, Named.{IsSaid, IsNamed}}
 
 -- what is taken as it is, and the same under the names of the plain form

@@ -3,9 +3,9 @@ use Rattle.std.proofs.Common.{◌≡◌, ℕ, suc, ◌+◌, Bool, true, false, c
 use Rattle.std.proofs.lemmas.{Bool.{and_parts, le-ltb, lt-ltb, or_cases}, Grind.{flat_map-append}, List.{drop_all, drop_more}}
 use Rattle.std.specs.Prelude.{◌&&◌, ◌⊎◌, flat_map}
 use Rattle.zone_outside.specs.Limit.{text_limit}
-use Rattle.zone_values.specs.Values.{RuleValue, LineValue, space, rule}
+use Rattle.zone_table.specs.Values.{RuleValue, LineValue, space, rule}
 use Rattle.zone_plain_lines.specs.declared.cause.PlainCause.TheVariants as cause
-use Rattle.zone_plain_base.specs.{LineFaults.{at, bad_line, too_long}, Said.{is_said}, Renamed.{mark_of}}
+use Rattle.zone_plain_lines.specs.{LineFaults.{at, bad_line, too_long}, Said.{is_said}, Renamed.{mark_of}}
 use Rattle.zone_plain.specs.{MadeNames.{made_name}, Pairs.{Pair, Asked, under, asked, is_same, is_among, with_pair, number_of, joined_by, pairs_from, pairs_of}}
 use Rattle.zone_plain.specs.{Made.{rules_named, made_rule, rules_for, are_rules_said, changed_by, changed, is_changed_said, named_in, name_in, made_for, made}, WrittenOut.{made_size, refused_from, written_unless, written_out, IsWrittenAs}}
 use Rattle.zone_plain.specs.{Written.{Part, Rules, Zones, Links, line_text, part_text, written}, ToldOffsets.{asked_rules, is_asked_said, IsWrittenOut}, PairLaws.{same_pair, among_with, among_more}}

@@ -1,6 +1,6 @@
 -- Two totals have one text only where they are one.
 use Rattle.std.{proofs.Common.{◌≡◌, ℕ, suc, ◌+◌, ◌/◌, ◌%◌, ℤ, pos, negsuc, Bool, true, false, cond, List, [], ◌∷◌, ◌++◌, get_or, drop, refl, sym, ap, ◌∙◌, arith}, proofs.lemmas.Bool.Decides.{nat_tests}, specs.Prelude.{◌==◌, int_lt}}
-use Rattle.zone_plain_base.specs.PlainTexts.{two_digits}
+use Rattle.zone_plain_lines.specs.PlainTexts.{two_digits}
 use Rattle.zone_plain.specs.OffsetTexts.{seconds_text, minutes_text, offset_text}
 
 zero_is : (n : ℕ) → (n == 0) ≡ true → n ≡ 0

@@ -1,7 +1,7 @@
 -- What was written out of a line, by what it asks for.
 use Rattle.std.{proofs.Common.{◌≡◌, ℕ, ℤ, Bool, true, false, cond, List, [], ◌∷◌, ◌++◌, refl, sym, ap, ◌∙◌, subst, append-nil}, specs.Prelude.{◌&&◌, codes, flat_map}}
-use Rattle.zone_values.specs.Values.{LineValue, zone, continuation}
-use Rattle.zone_plain_base.specs.Said.{is_said}
+use Rattle.zone_table.specs.Values.{LineValue, zone, continuation}
+use Rattle.zone_plain_lines.specs.Said.{is_said}
 use Rattle.zone_plain.specs.{Formats.{Around}, OffsetTexts.{offset_text, has_text}, Pairs.{Pair, nothing, total, under, asked, with_pair, joined_by}, Made.{with_format, with_ruleset, around_text, changed_by, named_in}}
 use Rattle.zone_plain.specs.{Written.{Part, Rules, Zones, Links, is_in, line_text, part_text}, ToldOffsets.{IsAdded, AreAdded, new_rules, are_new_said, asked_rules, is_asked_said, IsWrittenOut}}
 

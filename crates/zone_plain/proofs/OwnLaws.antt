@@ -4,10 +4,9 @@ use Rattle.std.proofs.lemmas.{List.{length-append}, List.Elements.{All-nil, All-
 use Rattle.std.specs.{Prelude.{bytes_eq, ◌||◌, option_to_list, slice_get, option_and_then}, List.{sum_by}, Option.{option_map_or}, Str.{is_utf8}}
 use Rattle.zone_outside.specs.Limit.{text_limit}
 use Rattle.zone_source.specs.{ReleaseLaws.{named_line}, Releases.{line_naming, named_by, release_of}, Lines.{lines_of}}
-use Rattle.zone_values.specs.{Results.{◌>>=◌}, Seconds.{seconds_of}, Values.{SavingValue, no_saving, one_off, multiple, InfoValue, RuleValue, LineValue, space, zone, continuation, rule, link}}
-use Rattle.zone_plain_lines.specs.declared.cause.PlainCause.{PlainCause}
+use Rattle.zone_table.specs.{Results.{◌>>=◌}, Seconds.{seconds_of}, Values.{SavingValue, no_saving, one_off, multiple, InfoValue, RuleValue, LineValue, space, zone, continuation, rule, link}}
+use Rattle.zone_plain_lines.specs.{declared.cause.PlainCause.{PlainCause}, LineFaults.{LineFault, numbered, onto}, Meant.{line_meaning}, Said.{is_said}, SaidLaws.{name_said, no_text}, PlainTexts.{plain_text}}
 use Rattle.zone_plain_lines.specs.declared.cause.PlainCause.TheVariants as cause
-use Rattle.zone_plain_base.specs.{LineFaults.{LineFault, numbered, onto}, Meant.{line_meaning}, Said.{is_said}, SaidLaws.{name_said, no_text}, PlainTexts.{plain_text}}
 use Rattle.zone_plain.proofs.{Clean.{new_name, names_by, has, AreFresh, IsSound, AreClean}, CleanLaws.{declares_is, names_append, clean_stays, clean_from, are_settled, rulesets_stay}, SettledLaws.{no_ok, zones_stay}, KeptLaws.{names_stay, kept_by}}
 use Rattle.zone_plain.proofs.{MeansLaws.{heading_means}, PartLemmas.{parts_give}, PartLaws.{parts_zones, parts_links, parts_rules, out_zones, out_links, out_rules}, ReadBackLaws.{IsPlaced, read_as_meant}, PlacedLaws.{parts_followed}, RebuiltLaws.{headed}}
 use Rattle.zone_plain.proofs.WrittenLinesLaws.{written_is as written_in_parts, in_all_parts}

@@ -1,7 +1,7 @@
 -- Pairs, each once, and their numbers.
 use Rattle.std.{proofs.Common.{◌≡◌, ◌+◌, Bool, true, false, cond, not, List, [], ◌∷◌, ◌++◌, map, refl, ap, ◌∙◌}, specs.Prelude.{◌||◌}, specs.List.{list_any, position_or_len}, proofs.lemmas.List.{map-append}}
 use Rattle.indexmap.specs.IndexSet.{insert_key}
-use Rattle.zone_values.specs.Values.{LineValue}
+use Rattle.zone_table.specs.Values.{LineValue}
 use Rattle.zone_plain.specs.{PairLaws.{pair_itself, among_joined}, Pairs.{Pair, Asked, under, asked, is_same, is_among, with_pair, number_of, joined_by, pairs_from}, Shown.{pair_shown}}
 use Rattle.zone_plain.specs.declared.asked.Pair as code
 use Rattle.zone_plain.specs.contracts.asked.PairPartialEq.TheImpl as same

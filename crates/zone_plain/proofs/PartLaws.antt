@@ -1,6 +1,6 @@
 -- The names that lines give, by the parts of what is written.
 use Rattle.std.{proofs.Common.{◌≡◌, ℕ, List, [], ◌∷◌, ◌++◌, map, true, Option, None, Ok, refl, ap, ◌∙◌, append-nil}, specs.Prelude.{option_to_list}, proofs.lemmas.Bool.{both_ways}}
-use Rattle.zone_values.specs.Values.{InfoValue, RuleValue, LineValue, zone, continuation, rule, link}
+use Rattle.zone_table.specs.Values.{InfoValue, RuleValue, LineValue, zone, continuation, rule, link}
 use Rattle.zone_plain.proofs.{Clean.{new_name, names_by}, CleanLaws.{names_append}, PartLemmas.{GivesIn, parts_give}}
 use Rattle.zone_plain.specs.{Declares.{zone_name, ruleset_name}, Made.{made_rule, rules_named, rules_for, changed_by, changed, name_in, made_for, made}, MadeLaws.{written_is}, Pairs.{Pair, Asked, total, under, asked, pairs_of}, WrittenOut.{written_out}}
 use Rattle.zone_plain.specs.{Written.{Rules, Zones, Links}, WrittenLines.{in_parts}}

@@ -1,6 +1,6 @@
 -- What lines give, by the parts of what is written.
 use Rattle.std.proofs.{Common.{◌≡◌, List, [], ◌∷◌, ◌++◌, filter, flat_map, Bool, true, false, cond, refl, sym, ap, ◌∙◌, append-nil}, lemmas.Grind.{flat_map-append}}
-use Rattle.zone_values.specs.Values.{LineValue, space, zone, continuation, rule, link}
+use Rattle.zone_table.specs.Values.{LineValue, space, zone, continuation, rule, link}
 use Rattle.zone_plain.specs.{Written.{Part, Rules, Zones, Links, is_in}, WrittenLines.{in_parts}}
 
 -- another part

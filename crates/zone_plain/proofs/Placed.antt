@@ -1,6 +1,6 @@
 -- Lines of zones in their places.
 use Rattle.std.specs.Prelude.{List, [], ◌∷◌, Bool, true, false, ◌&&◌}
-use Rattle.zone_values.specs.Values.{LineValue, space, zone, continuation}
+use Rattle.zone_table.specs.Values.{LineValue, space, zone, continuation}
 
 -- each continuation follows a line of a zone, with blank lines at most between; the first one by what is told
 abbrev pub are_placed : Bool → List LineValue → Bool

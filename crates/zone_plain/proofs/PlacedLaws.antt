@@ -1,11 +1,10 @@
 -- The lines of zones that are written stand in their places, each where one has to follow.
 use Rattle.std.{proofs.Common.{◌≡◌, ℕ, suc, ◌+◌, List, [], ◌∷◌, ◌++◌, map, filter, Bool, true, false, cond, not, Option, Some, None, Result, Ok, Err, IfOk, refl, nat_lt}, specs.Prelude.{is_some}, proofs.lemmas.Bool.{both_ways, and_parts, and_from}}
 use Rattle.zone_outside.specs.Limit.{text_limit}
-use Rattle.zone_values.specs.{Values.{RuleValue, LineValue, space, zone, continuation, rule, link}, Results.{◌>>=◌}}
+use Rattle.zone_table.specs.{Values.{RuleValue, LineValue, space, zone, continuation, rule, link}, Results.{◌>>=◌}}
 use Rattle.zone_source.specs.Lines.{lines_of}
-use Rattle.zone_plain_lines.specs.declared.cause.PlainCause.{PlainCause}
+use Rattle.zone_plain_lines.specs.{declared.cause.PlainCause.{PlainCause}, LineFaults.{LineFault, Refusal, too_long, numbered, by_line, onto}, MeantLaws.{holds, either}, Said.{is_said, if_said}, Renamed.{renamed}}
 use Rattle.zone_plain_lines.specs.declared.cause.PlainCause.TheVariants as cause
-use Rattle.zone_plain_base.specs.{LineFaults.{LineFault, Refusal, too_long, numbered, by_line, onto}, MeantLaws.{holds, either}, Said.{is_said, if_said}, Renamed.{renamed}}
 use Rattle.zone_plain.specs.{Declares.{has_zone, target_of}, Leads.{zone_behind}, Settled.{lacks_rules, link_to, link_after, settled_link, settled_line, link_size, settled_from, settled}}
 use Rattle.zone_plain.specs.{Made.{changed_by, changed, made_rule, name_in, rules_named, made_for, made}, Pairs.{Pair, Asked, nothing, total, under, asked, pairs_of}, WrittenOut.{refused_from, written_unless, written_out}}
 use Rattle.zone_plain.specs.{LineValues.{line_meaning, is_open_after, values_from, mark_in, named, values_in}, Written.{Rules, Zones, Links, is_in}, WrittenLines.{in_parts}}

@@ -1,7 +1,7 @@
 -- What is written, stage by stage.
 use Rattle.std.proofs.{Common.{◌≡◌, ◌<◌, ◌≤◌, ℕ, List, ◌++◌, length, Ok, Err, refl, sym}, lemmas.Bool.{le-ltb, lt-ltb}}
-use Rattle.zone_values.specs.Values.{LineValue}
-use Rattle.zone_plain_base.specs.LineFaults.{too_long}
+use Rattle.zone_table.specs.Values.{LineValue}
+use Rattle.zone_plain_lines.specs.LineFaults.{too_long}
 use Rattle.zone_plain.specs.{WrittenOut.{IsWrittenAs}, Settled.{settled}, Plain.{if_short}, Told.{with_lines}}
 
 -- what is written behind a head, before its length is told

@@ -1,8 +1,8 @@
 -- Each line that is written is read as it is meant.
 use Rattle.std.proofs.{Common.{◌≡◌, ℕ, List, ◌++◌, ◌≤◌, All, true, false, Result, Ok, Err, IfOk, refl, sym, subst, length, nat_lt, ap, ◌∙◌}, lemmas.Bool.{ltb-false}, lemmas.List.Elements.{All-weaker}}
 use Rattle.zone_outside.specs.Limit.{text_limit}
-use Rattle.zone_values.specs.Values.{LineValue}
-use Rattle.zone_plain_base.specs.{LineFaults.{LineFault, by_line}, MeantLaws.{then_ok, either}, SaidLaws.{read_back, one_line}}
+use Rattle.zone_table.specs.Values.{LineValue}
+use Rattle.zone_plain_lines.specs.{LineFaults.{LineFault, by_line}, MeantLaws.{then_ok, either}, SaidLaws.{read_back, one_line}}
 use Rattle.zone_plain.proofs.{SettledSaidLaws.{settled_said}, NamedLaws.{is_named}, Followed.{are_followed}, PlacedLaws.{StaysFollowed, source_followed, settled_followed, out_followed}}
 use Rattle.zone_plain.specs.{Settled.{settled}, SaidLaws.{written_out_said}, WrittenOut.{written_out}, Heads.{head_of}, LineValues.{values_in}, Named.{IsSaid, named_lines}, Plain.{plain_of}, ReadBack.{IsReadAsMeant, IsReadBack}, Written.{written}}
 

@@ -1,11 +1,9 @@
 -- Lines that were read, and those that are left.
 use Rattle.std.proofs.{Common.{◌≡◌, ℕ, suc, ◌+◌, List, [], ◌∷◌, ◌++◌, map, length, Bool, true, false, cond, Result, Ok, Err, refl, sym, ap, ◌∙◌, append_assoc, append-nil, arith}, lemmas.List.{map_push}}
 use Rattle.zone_source.specs.{Lines.{lines_of}, Zones.{source_value}}
-use Rattle.zone_values.specs.{Values.{LineValue}, Results.{◌>>=◌}}
-use Rattle.zone_plain_lines.specs.declared.cause.PlainCause.{PlainCause}
+use Rattle.zone_table.specs.{Values.{LineValue}, Results.{◌>>=◌}}
+use Rattle.zone_plain_lines.specs.{declared.cause.PlainCause.{PlainCause}, PlainTexts.{plain_text}, LineFaults.{LineFault, at, numbered, onto}, SaidLaws.{source_value_is}, Told.{fault_at, IsRefused}, declared.error.Refused.{Refused}, declared.error.Refused.TheVariants.{Cause, NoMemory}, Renamed.{renamed}}
 use Rattle.zone_plain_lines.specs.declared.cause.PlainCause.TheVariants as cause
-use Rattle.zone_plain_base.specs.{PlainTexts.{plain_text}, LineFaults.{LineFault, at, numbered, onto}, SaidLaws.{source_value_is}, Told.{fault_at, IsRefused}, declared.error.Refused.{Refused}, declared.error.Refused.TheVariants.{Cause, NoMemory}}
-use Rattle.zone_plain_base.specs.Renamed.{renamed}
 use Rattle.zone_plain.specs.{LineValues.{line_meaning, is_open_after, values_from, mark_in, named, values_in}, Told.{added_line, IsReadLine, IsLineFault}}
 
 -- these values come before those that are found

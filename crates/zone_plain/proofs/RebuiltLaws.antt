@@ -3,9 +3,9 @@ use Rattle.std.proofs.{Common.{◌≡◌, ℕ, List, [], ◌∷◌, ◌++◌, ma
 use Rattle.std.specs.{Prelude.{slice_get, option_and_then}, Result.{result_unwrap_or}, Str.{is_utf8}}
 use Rattle.zone_line.specs.LineValues.{value}
 use Rattle.zone_source.specs.{ReleaseLines.{IsReleaseLine}, ReleaseLaws.{release_line}, Releases.{line_naming, named_by, release_of}, Lines.{lines_of}, Zones.{source_value, values_of}}
-use Rattle.zone_values.specs.Values.{LineValue, space}
+use Rattle.zone_table.specs.Values.{LineValue, space}
 use Rattle.zone_plain_lines.specs.declared.cause.PlainCause.TheVariants as cause
-use Rattle.zone_plain_base.specs.{LineFaults.{at, onto}, Said.{is_read_as}, SaidLaws.{read_as}, PlainTexts.{plain_text, info_text, stretch_text, rule_text, years_text}}
+use Rattle.zone_plain_lines.specs.{LineFaults.{at, onto}, Said.{is_read_as}, SaidLaws.{read_as}, PlainTexts.{plain_text, info_text, stretch_text, rule_text, years_text}}
 use Rattle.zone_plain.proofs.{Followed.{are_followed}, JoinedLaws.{blank_first, alike_both, parts_alike}, MeansLaws.{heading_means, step, texts_mean}, PlacedLaws.{followed_placed, parts_followed}, ReadBackLaws.{read_as_meant}}
 use Rattle.zone_plain.proofs.WrittenLinesLaws.{line_text, written_is, lines_are, texts_are, all_lines, all_say, in_all_parts}
 use Rattle.zone_plain.specs.{Heads.{is_silent, head_with, head_of, head_values}, LineValues.{values_from, meant_in}, Named.{IsSaid}, Plain.{plain_of}, ReadBack.{IsReadAsMeant}, Rebuilt.{IsRebuilt}, Written.{written}, WrittenLines.{IsLine, JoinAlike, in_parts}}

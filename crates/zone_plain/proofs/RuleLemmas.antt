@@ -1,7 +1,7 @@
 -- What was added of a rule, of a ruleset and of a line.
 use Rattle.std.{proofs.Common.{◌≡◌, ℕ, ℤ, Bool, true, false, not, cond, List, [], ◌∷◌, ◌++◌, Some, None, refl, sym, ap, ◌∙◌, subst, append-nil}, specs.Prelude.{◌&&◌, flat_map, if◌then◌else◌}}
-use Rattle.zone_values.specs.Values.{RuleValue, LineValue, rule}
-use Rattle.zone_plain_base.specs.{PlainTexts.{plain_text}, Said.{is_said}}
+use Rattle.zone_table.specs.Values.{RuleValue, LineValue, rule}
+use Rattle.zone_plain_lines.specs.{PlainTexts.{plain_text}, Said.{is_said}}
 use Rattle.zone_plain.specs.{Formats.{Around}, OffsetTexts.{offset_text, has_text}, Pairs.{Pair, is_among, with_pair}, Made.{total_of, renamed, made_rule, is_rule_said, rules_for, are_rules_said, with_format, around_text, named_in}, Written.{line_text}}
 use Rattle.zone_plain.specs.ToldOffsets.{IsAdded, AreAdded, new_rules, are_new_said}
 

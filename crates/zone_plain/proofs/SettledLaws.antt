@@ -2,10 +2,9 @@
 use Rattle.std.proofs.Common.{◌≡◌, ℕ, suc, ◌+◌, List, [], ◌∷◌, ◌++◌, Bool, true, false, cond, Option, Some, None, Result, Ok, Err, refl, sym, ap, ◌∙◌, subst, nat_lt, rules}
 use Rattle.std.specs.{Prelude.{bytes_eq, ◌&&◌, ◌||◌, is_some, option_and_then}, Result.{result_unwrap_or}, Cmp.Lexicographic.{bytes_decides}, List.{list_all}, Option.{option_or}}
 use Rattle.zone_outside.specs.Limit.{text_limit}
-use Rattle.zone_values.specs.{Values.{LineValue, InfoValue, space, zone, continuation, link}, Results.{◌>>=◌}}
-use Rattle.zone_plain_lines.specs.declared.cause.PlainCause.{PlainCause}
+use Rattle.zone_table.specs.{Values.{LineValue, InfoValue, space, zone, continuation, link}, Results.{◌>>=◌}}
+use Rattle.zone_plain_lines.specs.{declared.cause.PlainCause.{PlainCause}, LineFaults.{Refusal, too_long, numbered, by_line, onto}, Said.{is_said, if_said}}
 use Rattle.zone_plain_lines.specs.declared.cause.PlainCause.TheVariants as cause
-use Rattle.zone_plain_base.specs.{LineFaults.{Refusal, too_long, numbered, by_line, onto}, Said.{is_said, if_said}}
 use Rattle.zone_plain.specs.{Declares.{zone_name, is_that, has_zone, target_by, target_of}, Leads.{zone_behind}, Needs.{is_to_zone, has_zones_as_targets, NeedsNothing}}
 use Rattle.zone_plain.specs.Settled.{lacks_rules, link_to, link_after, settled_link, settled_line, link_size, settled_from, settled}
 use Rattle.zone_plain.proofs.{TargetLaws.{target-more, or_none}, LeadsLaws.{is_zone_behind, behind_itself}}

@@ -1,10 +1,9 @@
 -- What becomes of lines that can be said can be said.
 use Rattle.std.proofs.{Common.{◌≡◌, ℕ, suc, ◌+◌, List, [], ◌∷◌, ◌++◌, All, Bool, true, false, cond, Result, Ok, Err, IfOk, nat_lt}, lemmas.List.Elements.{All-nil, All-cons, All-head, All-tail}}
 use Rattle.zone_outside.specs.Limit.{text_limit}
-use Rattle.zone_values.specs.{Values.{LineValue, zone, continuation, link}, Results.{◌>>=◌}}
-use Rattle.zone_plain_lines.specs.declared.cause.PlainCause.{PlainCause}
+use Rattle.zone_table.specs.{Values.{LineValue, zone, continuation, link}, Results.{◌>>=◌}}
+use Rattle.zone_plain_lines.specs.{declared.cause.PlainCause.{PlainCause}, MeantLaws.{then_ok, any_ok, either}, LineFaults.{too_long, numbered, by_line, onto}, Said.{is_said, if_said}}
 use Rattle.zone_plain_lines.specs.declared.cause.PlainCause.TheVariants as cause
-use Rattle.zone_plain_base.specs.{MeantLaws.{then_ok, any_ok, either}, LineFaults.{too_long, numbered, by_line, onto}, Said.{is_said, if_said}}
 use Rattle.zone_plain.specs.{Declares.{has_zone, target_of}, Settled.{lacks_rules, link_after, settled_link, settled_line, link_size, settled_from, settled}}
 
 abbrev pub IsSaid : LineValue → Type 0

@@ -4,9 +4,8 @@ use Rattle.std.proofs.lemmas.{List.{drop_all, drop_more, get_or-map, take_more},
 use Rattle.std.specs.{Prelude.{is_some}, FinMap.{get, empty, get-empty}}
 use Rattle.basics.specs.Keyed.{text_cmp}
 use Rattle.zone_outside.specs.Limit.{text_limit}
-use Rattle.zone_values.specs.{Values.{LineValue, line_value, space}, declared.line.Line.{Line}, declared.line.Line.TheVariants.{Space}}
-use Rattle.zone_plain_lines.specs.declared.cause.PlainCause.{PlainCause}
-use Rattle.zone_plain_base.specs.{LineFaults.{Refusal, bad_line, too_long, at, onto, IsFaultOf}, Told.{fault_at, IsRefused}, declared.error.Refused.{Refused}, declared.error.Refused.TheVariants.{Cause, NoMemory}}
+use Rattle.zone_table.specs.{Values.{LineValue, line_value, space}, declared.line.Line.{Line}, declared.line.Line.TheVariants.{Space}}
+use Rattle.zone_plain_lines.specs.{declared.cause.PlainCause.{PlainCause}, LineFaults.{Refusal, bad_line, too_long, at, onto, IsFaultOf}, Told.{fault_at, IsRefused}, declared.error.Refused.{Refused}, declared.error.Refused.TheVariants.{Cause, NoMemory}}
 use Rattle.zone_plain.specs.{Settled.{link_size, settled_line, settled_from, settled}, Stands.{names_of, IsDeclared, IsKept, IsAt}, declared.links.Declared.{Declared}, declared.links.Seen.{Seen}}
 
 pub first_at : (d : Declared) (s : Seen) (values : List LineValue) (limit : ℕ) → s.zones ≡ empty → s.targets ≡ empty → s.known ≡ empty

@@ -1,6 +1,6 @@
 -- The targets of links with a line more.
 use Rattle.std.{proofs.Common.{◌≡◌, ℕ, List, [], ◌∷◌, ◌++◌, Option, None, Some, refl, ap, ◌∙◌}, specs.Option.{option_or}}
-use Rattle.zone_values.specs.Values.{LineValue}
+use Rattle.zone_table.specs.Values.{LineValue}
 use Rattle.zone_plain.specs.Declares.{target_by, target_of}
 
 pub or_none : (o : Option (List ℕ)) → option_or o None ≡ o

@@ -1,7 +1,7 @@
 -- Lines that were read as those of a source of a mark, which may be another's.
 use Rattle.std.{proofs.Common.{◌≡◌, ℕ, suc, ◌+◌, List, [], ◌∷◌, ◌++◌, length, Bool, false, refl, sym, ap, ◌∙◌, arith}, proofs.lemmas.Bool.{or_parts}, specs.Prelude.{◌||◌, codes}}
 use Rattle.zone_source.specs.{Lines.{lines_of}}
-use Rattle.zone_plain_base.specs.{Marks.{behind, ending_within}, Renamed.{ruleset_of}}
+use Rattle.zone_plain_lines.specs.{Marks.{behind, ending_within}, Renamed.{ruleset_of}}
 use Rattle.zone_plain.{specs.LineValues.{mark_in}, specs.Told.{IsReadLine}, proofs.MetLemmas.{HasMet, nothing_met, one_met, all_met, mark_is}, proofs.ReadingLemmas.{HasRead, nothing_read, one_more}}
 
 -- the lines before the nth were read, where the mark is the source's, and whether the name of some ruleset of them begins with `_`

@@ -1,6 +1,6 @@
 -- Worked rows: where names lead, and what becomes of lines.
 use Rattle.std.{proofs.Common.{◌≡◌, List, [], ◌∷◌, None, Ok, Err, refl}, specs.Prelude.{codes}}
-use Rattle.zone_values.specs.{Values.{InfoValue, RuleValue, LineValue, multiple, space, zone, continuation, rule, link}, declared.time.TimeSpec.{TimeSpec}}
+use Rattle.zone_table.specs.{Values.{InfoValue, RuleValue, LineValue, multiple, space, zone, continuation, rule, link}, declared.time.TimeSpec.{TimeSpec}}
 use Rattle.zone_plain_lines.specs.declared.cause.PlainCause.TheVariants as cause
 use Rattle.zone_plain.specs.{Declares.{target_of}, Leads.{zone_behind}, Settled.{link_after, settled_link, settled_line}}
 

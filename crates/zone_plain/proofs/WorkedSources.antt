@@ -1,9 +1,8 @@
 -- Worked rows: the lines of a source with `%z` written out.
 use Rattle.std.{proofs.Common.{◌≡◌, ℕ, suc, List, [], ◌∷◌, ◌++◌, map, pos, Option, Some, None, Ok, Err, true, cond, not, nat_lt, refl, ap, ◌∙◌}, specs.Prelude.{codes}, specs.Fmt.{digits}}
-use Rattle.zone_values.specs.{Months.{month_name}, Seconds.{with_type}, Values.{SavingValue, no_saving, one_off, multiple, LineValue, space, zone, continuation, rule, link}, declared.day.DaySpec.TheVariants.{Ordinal}, declared.month.Month.TheVariants.{June}}
-use Rattle.zone_values.specs.declared.{time.TimeSpec.{TimeSpec}, time.TimeSpec.TheVariants.{Hours, HoursMinutes}, time.TimeType.TheVariants.{Wall}, year.Year.TheVariants.{Minimum}}
+use Rattle.zone_table.specs.{Months.{month_name}, Seconds.{with_type}, Values.{SavingValue, no_saving, one_off, multiple, LineValue, space, zone, continuation, rule, link}, declared.day.DaySpec.TheVariants.{Ordinal}, declared.month.Month.TheVariants.{June}, declared.{time.TimeSpec.{TimeSpec}, time.TimeSpec.TheVariants.{Hours, HoursMinutes}, time.TimeType.TheVariants.{Wall}, year.Year.TheVariants.{Minimum}}}
 use Rattle.zone_plain_lines.specs.declared.cause.PlainCause.TheVariants as cause
-use Rattle.zone_plain_base.specs.{PlainTexts.{plain_text, rule_text, years_text, year_text, to_text, moment_text, day_text, time_text}, LineFaults.{at, bad_line, too_long}, Marks.{ending_within}, Renamed.{mark_of}}
+use Rattle.zone_plain_lines.specs.{PlainTexts.{plain_text, rule_text, years_text, year_text, to_text, moment_text, day_text, time_text}, LineFaults.{at, bad_line, too_long}, Marks.{ending_within}, Renamed.{mark_of}}
 use Rattle.zone_plain.specs.{Formats.{around_mark}, Made.{is_changed_said, name_in, rules_named, made_for, made}, MadeNames.{made_name}, OffsetTexts.{offset_text}, Pairs.{Pair, asked, asked_by, joined_by, pairs_from, pairs_of}}
 use Rattle.zone_plain.specs.WrittenOut.{made_size, refused_from, written_unless, written_out}
 

@@ -1,9 +1,8 @@
 -- Worked rows: what is written of values, and what is one line.
 use Rattle.std.{proofs.Common.{◌≡◌, false, List, [], ◌∷◌, pos, neg_ℤ, None, Some, refl}, specs.Prelude.{codes}, specs.Fmt.{digits}, proofs.lemmas.List.Elements.{All-from_recursion}}
 use Rattle.zone_source.specs.Lines.{is_line_feed}
-use Rattle.zone_values.specs.{Months.{month_name}, Seconds.{with_type}, Values.{no_saving, multiple, LineValue, space, zone, continuation, rule, link}, declared.change.ChangeTime.TheVariants.{UntilYear}, declared.day.DaySpec.TheVariants.{Ordinal}}
-use Rattle.zone_values.specs.declared.{month.Month.TheVariants.{June}, time.TimeSpec.TheVariants.{Hours, HoursMinutes}, time.TimeType.TheVariants.{Standard}, year.Year.TheVariants.{Minimum, Number}}
-use Rattle.zone_plain_base.specs.PlainTexts.{plain_text, rule_text, years_text, year_text, to_text, moment_text, day_text, time_text, clock_text, info_text, stretch_text, saving_text, end_text}
+use Rattle.zone_table.specs.{Months.{month_name}, Seconds.{with_type}, Values.{no_saving, multiple, LineValue, space, zone, continuation, rule, link}, declared.change.ChangeTime.TheVariants.{UntilYear}, declared.day.DaySpec.TheVariants.{Ordinal}, declared.{month.Month.TheVariants.{June}, time.TimeSpec.TheVariants.{Hours, HoursMinutes}, time.TimeType.TheVariants.{Standard}, year.Year.TheVariants.{Minimum, Number}}}
+use Rattle.zone_plain_lines.specs.PlainTexts.{plain_text, rule_text, years_text, year_text, to_text, moment_text, day_text, time_text, clock_text, info_text, stretch_text, saving_text, end_text}
 use Rattle.zone_plain.specs.{Written.{written}, WrittenLines.{IsOneLine}}
 
 -- two links, a zone of two lines, and a rule behind them

@@ -3,8 +3,8 @@ use Rattle.std.proofs.{Common.{◌≡◌, ℕ, ◌<◌, ◌+◌, List, [], ◌�
 use Rattle.std.proofs.lemmas.List.{Elements.{All-nil, All-cons, All-head, All-tail, All-append, All-filter}, Splits.{slice_split_at, length-slice_split}}
 use Rattle.std.specs.{List.{slice_split}, Str.Lines.{strip_carriage_return}}
 use Rattle.zone_source.specs.{LineLaws.{without_last_empty-more}, Lines.{is_line_feed, without_last_empty, lines_of}, Zones.{source_value}}
-use Rattle.zone_values.specs.Values.{LineValue}
-use Rattle.zone_plain_base.specs.PlainTexts.{plain_text}
+use Rattle.zone_table.specs.Values.{LineValue}
+use Rattle.zone_plain_lines.specs.PlainTexts.{plain_text}
 use Rattle.zone_plain.specs.{ReadBack.{IsReadAsMeant}, Written.{Part, Rules, Zones, Links, is_in, part_text, written}, WrittenLines.{IsLine, in_parts}}
 
 -- a source says of a line that is read as meant what is meant

@@ -3,10 +3,8 @@ use Rattle.std.proofs.Common.{◌≡◌, ℕ, zero, suc, ◌+◌, ◌<◌, ◌^�
 use Rattle.std.proofs.{Math.Bool.{or-true}, lemmas.Bool.{and_parts, not-true, or_parts}, lemmas.Bool.Decides.{nat_tests}, lemmas.Int.{ints}, lemmas.List.{get_or_append_left, get_or-map, length-map}, lemmas.List.Elements.{All-map}}
 use Rattle.std.proofs.lemmas.List.{Folds.{list_any-append}, Sums.{split_at_first, passes_at_first}}
 use Rattle.std.specs.{Prelude.{◌==◌, ◌&&◌, ◌||◌, ◌+ℤ◌, ◌/◌, ◌%◌, codes, bytes_eq, int_lt, unsigned_abs, slice_index_or}, List.{list_any, position_or_len, before_first, after_first}, Option.{option_map_or, option_and_then}}
-use Rattle.zone_values.specs.{Seconds.{seconds_of}, Values.{SavingValue, no_saving, one_off, multiple, InfoValue, LineValue, space, zone, continuation}}
-use Rattle.zone_table.specs.{Joined.{rules_of}, declared.rule.RuleInfo.{RuleInfo}, Formats.{is_slash, is_placeholder, has_placeholder, format_of, filled, abbreviation}, declared.zone.Format.TheVariants.{Constant, Alternate, Placeholder}}
-use Rattle.zone_plain_base.specs.PlainTexts.{two_digits}
-use Rattle.zone_plain_lines.specs.Columns.{has_byte, is_letter, is_filled, is_format}
+use Rattle.zone_table.specs.{Seconds.{seconds_of}, Values.{SavingValue, no_saving, one_off, multiple, InfoValue, LineValue, space, zone, continuation}, Joined.{rules_of}, declared.rule.RuleInfo.{RuleInfo}, Formats.{is_slash, is_placeholder, has_placeholder, format_of, filled, abbreviation}, declared.zone.Format.TheVariants.{Constant, Alternate, Placeholder}}
+use Rattle.zone_plain_lines.specs.{PlainTexts.{two_digits}, Columns.{has_byte, is_letter, is_filled, is_format}}
 use Rattle.basics.specs.Marks.{cut}
 use Rattle.zone_plain.specs.{Abbreviations.{info_in, ruleset_in, own_saving, abbreviation_under, own_abbreviation, named_total, IsNamedUnder}, Formats.{Around, around, around_z, around_mark}}
 use Rattle.zone_plain.specs.{Made.{made_info, with_format, with_ruleset, changed_by, changed, name_in, made}, MadeLaws.{written_is}, PairLaws.{among_with, among_joined}, TableLaws.{made_ruleset}, WrittenOut.{written_out}}

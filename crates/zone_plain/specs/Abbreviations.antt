@@ -1,7 +1,6 @@
 -- The abbreviations of lines, as a table of zones has them.
 use Rattle.std.specs.{Prelude.{◌≡◌, ℕ, ℤ, pos, ◌+ℤ◌, ◌++◌, List, All, map, reverse, Option, Some, None, option_map}, Option.{option_and_then}}
-use Rattle.zone_values.specs.{Seconds.{seconds_of}, Values.{SavingValue, no_saving, one_off, multiple, InfoValue, LineValue, zone, continuation}}
-use Rattle.zone_table.specs.{Formats.{abbreviation}, Joined.{rules_of}, Owned.{owned_info}, declared.rule.RuleInfo.{RuleInfo}}
+use Rattle.zone_table.specs.{Seconds.{seconds_of}, Values.{SavingValue, no_saving, one_off, multiple, InfoValue, LineValue, zone, continuation}, Formats.{abbreviation}, Joined.{rules_of}, Owned.{owned_info}, declared.rule.RuleInfo.{RuleInfo}}
 use Rattle.zone_plain.specs.{Made.{made_info}, OffsetTexts.{offset_text}}
 
 -- what a line says of a stretch of time

@@ -1,6 +1,6 @@
 -- The names that lines declare: zones, rulesets and links.
 use Rattle.std.specs.{Prelude.{ℕ, List, [], ◌∷◌, Bool, false, ◌||◌, Option, Some, None, bytes_eq, if◌then◌else◌}, Option.{option_or}}
-use Rattle.zone_values.specs.Values.{LineValue, zone, rule, link}
+use Rattle.zone_table.specs.Values.{LineValue, zone, rule, link}
 
 abbrev pub zone_name : LineValue → Option (List ℕ)
 zone_name (zone name info) = Some name

@@ -1,9 +1,9 @@
 -- The first line of what is written, which names the source's release.
 use Rattle.std.specs.{Prelude.{ℕ, List, [], ◌∷◌, ◌++◌, Bool, ◌&&◌, Option, Some, None, Result, Ok, Err, if◌then◌else◌}, Str.{is_utf8}}
 use Rattle.zone_line.specs.LineValues.{value}
-use Rattle.zone_values.specs.Values.{LineValue, space}
+use Rattle.zone_table.specs.Values.{LineValue, space}
 use Rattle.zone_plain_lines.specs.declared.cause.PlainCause.TheVariants as cause
-use Rattle.zone_plain_base.specs.{LineFaults.{LineFault, at}, Said.{is_read_as}}
+use Rattle.zone_plain_lines.specs.{LineFaults.{LineFault, at}, Said.{is_read_as}}
 use Rattle.zone_source.specs.Releases.{line_naming, release_of}
 
 -- the line is read as one that says nothing

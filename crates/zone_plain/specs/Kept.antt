@@ -1,6 +1,6 @@
 -- Sources that ask for nothing.
 use Rattle.std.specs.Prelude.{◌≡◌, List, [], ◌∷◌}
-use Rattle.zone_values.specs.Values.{LineValue}
+use Rattle.zone_table.specs.Values.{LineValue}
 use Rattle.zone_plain.specs.Pairs.{asked, nothing}
 
 -- no line has a `%z`

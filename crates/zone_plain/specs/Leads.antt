@@ -1,6 +1,6 @@
 -- The zone that a name leads to.
 use Rattle.std.specs.Prelude.{ℕ, zero, suc, List, Bool, Option, Some, None, option_and_then, length, if◌then◌else◌}
-use Rattle.zone_values.specs.Values.{LineValue}
+use Rattle.zone_table.specs.Values.{LineValue}
 use Rattle.zone_plain.specs.Declares.{has_zone, target_of}
 
 -- where a name leads by at most so many links: a zone to itself, and a link to where its target leads

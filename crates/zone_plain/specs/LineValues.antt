@@ -1,13 +1,12 @@
 -- The values of the lines of a source, each in its place.
 use Rattle.std.specs.Prelude.{ℕ, suc, List, [], ◌∷◌, Bool, false, is_some, Result, Ok, Err, if◌then◌else◌}
-use Rattle.zone_values.specs.{Values.{LineValue, space, zone, continuation}, Results.{◌>>=◌}}
-use Rattle.zone_plain_lines.specs.declared.cause.PlainCause.{PlainCause}
+use Rattle.zone_table.specs.{Values.{LineValue, space, zone, continuation}, Results.{◌>>=◌}}
+use Rattle.zone_plain_lines.specs.{declared.cause.PlainCause.{PlainCause}, LineFaults.{LineFault, at, numbered, onto}, Said.{if_said}}
 use Rattle.zone_plain_lines.specs.declared.cause.PlainCause.TheVariants as cause
 use Rattle.zone_source.specs.Lines.{lines_of}
-use Rattle.zone_plain_base.specs.{LineFaults.{LineFault, at, numbered, onto}, Said.{if_said}}
-pub use Rattle.zone_plain_base.specs.Meant.{meant_by}
-unfoldable pub use Rattle.zone_plain_base.specs.Meant.{line_meaning}
-use Rattle.zone_plain_base.specs.Renamed.{mark_of, renamed}
+pub use Rattle.zone_plain_lines.specs.Meant.{meant_by}
+unfoldable pub use Rattle.zone_plain_lines.specs.Meant.{line_meaning}
+use Rattle.zone_plain_lines.specs.Renamed.{mark_of, renamed}
 
 -- whether a line of the zone has to follow, where one had to before
 abbrev pub is_open_after : Bool → LineValue → Bool

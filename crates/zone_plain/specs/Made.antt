@@ -1,8 +1,7 @@
 -- The rulesets that are made for `%z`, and what becomes of the lines.
 use Rattle.std.specs.{Prelude.{ℕ, ℤ, ◌+ℤ◌, Bool, true, ◌&&◌, List, [], ◌∷◌, ◌++◌, map, flat_map, codes, Some, bytes_eq, if◌then◌else◌}, List.{list_all}}
-use Rattle.zone_values.specs.{Seconds.{seconds_of}, Values.{multiple, RuleValue, LineValue, space, zone, continuation, rule, link}}
-use Rattle.zone_table.specs.declared.rule.RuleInfo.{RuleInfo}
-use Rattle.zone_plain_base.specs.{Said.{is_said}, Renamed.{mark_of}}
+use Rattle.zone_table.specs.{Seconds.{seconds_of}, Values.{multiple, RuleValue, LineValue, space, zone, continuation, rule, link}, declared.rule.RuleInfo.{RuleInfo}}
+use Rattle.zone_plain_lines.specs.{Said.{is_said}, Renamed.{mark_of}}
 use Rattle.zone_plain.specs.{Formats.{Around}, MadeNames.{made_name}, OffsetTexts.{offset_text, has_text}, Pairs.{Pair, Asked, nothing, total, under, asked, number_of, pairs_of}}
 
 -- the rules of that name, in order

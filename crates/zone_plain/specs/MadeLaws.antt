@@ -3,8 +3,8 @@ use Rattle.std.proofs.{Common.{◌≡◌, ℕ, suc, ◌+◌, ◌<◌, ◌^◌, B
 use Rattle.std.proofs.lemmas.Slice.Eq.{bytes_eq-Decides}
 use Rattle.std.specs.Prelude.{◌||◌, flat_map, bytes_eq}
 use Rattle.zone_outside.specs.Limit.{text_limit}
-use Rattle.zone_values.specs.Values.{RuleValue, LineValue, zone, continuation, rule}
-use Rattle.zone_plain_base.specs.Renamed.{mark_of}
+use Rattle.zone_table.specs.Values.{RuleValue, LineValue, zone, continuation, rule}
+use Rattle.zone_plain_lines.specs.Renamed.{mark_of}
 use Rattle.zone_plain.specs.{MadeNameLaws.{name_is_new, one_name}, PairLaws.{same_pair, pair_itself, among_more}, Pairs.{Pair, Asked, nothing, under, asked, asked_by, is_same, is_among, with_pair, joined_by, number_of, pairs_from, pairs_of}}
 use Rattle.zone_plain.specs.{Made.{rules_named, made_rule, rules_for, changed_by, changed, name_in, made}, WrittenOut.{refused_from, written_unless, written_out}}
 

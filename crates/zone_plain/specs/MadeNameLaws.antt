@@ -2,8 +2,8 @@
 use Rattle.std.proofs.{Common.{◌≡◌, ℕ, ◌+◌, ◌<◌, ◌≤◌, ◌^◌, ◌%◌, Bool, true, false, cond, List, [], ◌∷◌, ◌++◌, map, get_or, drop, nat_lt, ◌-◌, refl, ap, arith}, lemmas.Bool.{or_right}, lemmas.Bool.Decides.{nat_tests}, lemmas.List.{append_cancel_left}}
 use Rattle.std.proofs.lemmas.Fmt.{decimal_injective, decimal_is_IsNumeral}
 use Rattle.std.specs.{Prelude.{◌||◌, decimal, bytes_eq}, Char.{digit_value}, Str.Parse.{AllDigits}}
-use Rattle.zone_values.specs.Values.{LineValue, rule}
-use Rattle.zone_plain_base.specs.{MarkLaws.{no_mark}, Renamed.{has_name, mark_of}}
+use Rattle.zone_table.specs.Values.{LineValue, rule}
+use Rattle.zone_plain_lines.specs.{MarkLaws.{no_mark}, Renamed.{has_name, mark_of}}
 use Rattle.zone_plain.specs.{MadeNames.{letter, made_name}, Made.{rules_named}}
 
 -- no rule of the source has a name that isn't one of the source

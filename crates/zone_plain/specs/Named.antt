@@ -1,8 +1,8 @@
 -- What a source means, with its own names and with those of the plain form.
 use Rattle.std.specs.Prelude.{◌≡◌, ℕ, List, map, All, true, Ok}
 use Rattle.zone_line.specs.Fields.{is_ruleset_name}
-use Rattle.zone_values.specs.Values.{LineValue}
-use Rattle.zone_plain_base.specs.{Said.{is_said}, Renamed.{ruleset_of, mark_of, renamed}}
+use Rattle.zone_table.specs.Values.{LineValue}
+use Rattle.zone_plain_lines.specs.{Said.{is_said}, Renamed.{ruleset_of, mark_of, renamed}}
 use Rattle.zone_plain.specs.LineValues.{meant_in}
 
 -- the plain form can say it

@@ -1,8 +1,8 @@
 -- Sources whose links need nothing.
 use Rattle.std.specs.{Prelude.{◌≡◌, ◌≤◌, ℕ, List, ◌∷◌, ◌++◌, Bool, true, false, None}, List.{list_all, sum_by}}
 use Rattle.zone_outside.specs.Limit.{text_limit}
-use Rattle.zone_values.specs.Values.{LineValue, zone, continuation, link}
-use Rattle.zone_plain_base.specs.Said.{is_said}
+use Rattle.zone_table.specs.Values.{LineValue, zone, continuation, link}
+use Rattle.zone_plain_lines.specs.Said.{is_said}
 use Rattle.zone_plain.specs.{Declares.{has_zone, target_of}, Settled.{lacks_rules, link_size}}
 
 -- it is no link, or a link to a zone

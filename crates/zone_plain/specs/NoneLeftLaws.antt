@@ -3,9 +3,8 @@ use Rattle.std.proofs.{Common.{◌≡◌, ℕ, suc, ◌+◌, ◌≤◌, Bool, tr
 use Rattle.std.proofs.lemmas.List.Elements.{All-nil, All-cons, All-head, All-tail, All-append}
 use Rattle.std.specs.{Prelude.{◌==◌, codes}, List.{position_or_len, before_first, after_first}, Option.{option_map_or, option_and_then}}
 use Rattle.basics.specs.Marks.{after_mark}
-use Rattle.zone_values.specs.{Seconds.{seconds_of}, Values.{SavingValue, multiple, InfoValue, RuleValue, LineValue, zone, continuation, rule}}
-use Rattle.zone_plain_lines.specs.{Columns.{has_byte}, Meanings.{is_ruled}}
-use Rattle.zone_plain_base.specs.{Meant.{is_next}, MeantLaws.{HasFormat, holds}, Said.{is_said}, SaidLaws.{meant_back}, PlainTexts.{plain_text}}
+use Rattle.zone_table.specs.{Seconds.{seconds_of}, Values.{SavingValue, multiple, InfoValue, RuleValue, LineValue, zone, continuation, rule}}
+use Rattle.zone_plain_lines.specs.{Columns.{has_byte}, Meanings.{is_ruled}, Meant.{is_next}, MeantLaws.{HasFormat, holds}, Said.{is_said}, SaidLaws.{meant_back}, PlainTexts.{plain_text}}
 use Rattle.zone_plain.specs.{AbbreviationLaws.{AreClean, clean_append, clean_parts, text_clean}, Formats.{Around, around, around_z, around_mark}, Made.{made_rule, rules_named, rules_for, around_text, changed_by, changed, name_in, made_for, made}}
 use Rattle.zone_plain.specs.{MadeLaws.{written_is}, OffsetTexts.{offset_text}, Pairs.{Pair, Asked, pair_of, nothing, total, under, asked_under, asked_by, asked, pairs_of}, WrittenOut.{written_out}}
 

@@ -1,6 +1,6 @@
 -- The text that stands for `%z`: a total, by its hours, and by minutes and seconds as far as they are needed.
 use Rattle.std.specs.Prelude.{ℕ, ◌/◌, ◌%◌, ◌==◌, ℤ, pos, Bool, nat_lt, int_lt, unsigned_abs, List, [], ◌∷◌, ◌++◌, if◌then◌else◌}
-use Rattle.zone_plain_base.specs.PlainTexts.{two_digits}
+use Rattle.zone_plain_lines.specs.PlainTexts.{two_digits}
 
 -- `ss`, or nothing at 0
 abbrev pub seconds_text : ℕ → List ℕ

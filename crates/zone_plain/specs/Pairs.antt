@@ -1,6 +1,6 @@
 -- What `%z` asks of a line: the text of a total, or under a ruleset one of its own for that ruleset and that offset.
 use Rattle.std.specs.{Prelude.{ℕ, ℤ, ◌+ℤ◌, Bool, ◌&&◌, List, [], ◌∷◌, ◌++◌, bytes_eq, if◌then◌else◌}, List.{list_any, position_or_len}, Ordering.{int_eq}, Option.{option_map_or}}
-use Rattle.zone_values.specs.{Seconds.{seconds_of}, Values.{SavingValue, no_saving, one_off, multiple, InfoValue, LineValue, zone, continuation}}
+use Rattle.zone_table.specs.{Seconds.{seconds_of}, Values.{SavingValue, no_saving, one_off, multiple, InfoValue, LineValue, zone, continuation}}
 use Rattle.zone_plain.specs.Formats.{Around, around_mark}
 
 -- a ruleset, by its name, and a standard offset in seconds

@@ -1,8 +1,8 @@
 -- The plain form of a source.
 use Rattle.std.specs.Prelude.{ℕ, List, ◌++◌, Result, Ok, Err, length, nat_lt, if◌then◌else◌}
 use Rattle.zone_outside.specs.Limit.{text_limit}
-use Rattle.zone_values.specs.Results.{◌>>=◌}
-use Rattle.zone_plain_base.specs.LineFaults.{Refusal, too_long, by_line}
+use Rattle.zone_table.specs.Results.{◌>>=◌}
+use Rattle.zone_plain_lines.specs.LineFaults.{Refusal, too_long, by_line}
 use Rattle.zone_plain.specs.{Settled.{settled}, WrittenOut.{written_out}, Heads.{head_of}, LineValues.{values_in}, Written.{written}}
 
 abbrev pub if_short : List ℕ → Result (List ℕ) Refusal

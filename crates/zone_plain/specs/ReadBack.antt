@@ -1,8 +1,8 @@
 -- What is written is read as it is meant.
 use Rattle.std.specs.{Prelude.{◌≡◌, ℕ, List, ◌++◌, All, true, Ok}, Str.{is_utf8}}
 use Rattle.zone_line.specs.LineValues.{value}
-use Rattle.zone_values.specs.Values.{LineValue}
-use Rattle.zone_plain_base.specs.PlainTexts.{plain_text}
+use Rattle.zone_table.specs.Values.{LineValue}
+use Rattle.zone_plain_lines.specs.PlainTexts.{plain_text}
 use Rattle.zone_plain.specs.{Settled.{settled}, WrittenOut.{written_out}, Heads.{head_of}, LineValues.{meant_in}, Named.{named_lines}, Written.{written}, WrittenLines.{IsOneLine}}
 
 -- what is written of a value is UTF-8 and one line, and is read as this value

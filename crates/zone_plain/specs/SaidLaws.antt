@@ -2,10 +2,10 @@
 use Rattle.std.proofs.{Common.{◌≡◌, ℕ, suc, Bool, true, false, cond, not, nat_lt, List, [], ◌∷◌, ◌++◌, All, map, Option, Some, None, IfOk, refl, rules}, lemmas.Bool.{and_parts}}
 use Rattle.std.proofs.lemmas.List.Elements.{All-nil, All-cons, All-head, All-tail, All-append, All-push}
 use Rattle.std.specs.List.{list_any, list_all}
-use Rattle.zone_values.specs.Values.{RuleValue, LineValue, rule}
+use Rattle.zone_table.specs.Values.{RuleValue, LineValue, rule}
 use Rattle.zone_outside.specs.Limit.{text_limit}
 use Rattle.zone_plain_lines.specs.declared.cause.PlainCause.TheVariants as cause
-use Rattle.zone_plain_base.specs.{LineFaults.{Refusal, at, bad_line, too_long}, Said.{is_said}}
+use Rattle.zone_plain_lines.specs.{LineFaults.{Refusal, at, bad_line, too_long}, Said.{is_said}}
 use Rattle.zone_plain.specs.{OffsetTexts.{has_text}, Pairs.{Pair, Asked, nothing, total, under, asked, is_same, joined_by, pairs_from, pairs_of}}
 use Rattle.zone_plain.specs.{Made.{total_of, made_rule, rules_named, rules_for, is_rule_said, are_rules_said, changed_by, changed, is_changed_said, name_in, made_for, made}, WrittenOut.{made_size, refused_from, written_unless, written_out}}
 

@@ -1,10 +1,9 @@
 -- The lines of a source with each link led to its zone, or why they are refused.
 use Rattle.std.specs.Prelude.{ℕ, suc, ◌+◌, List, [], ◌∷◌, ◌++◌, Bool, false, not, Option, Some, None, Result, Ok, Err, length, nat_lt, bytes_eq, if◌then◌else◌}
 use Rattle.zone_outside.specs.Limit.{text_limit}
-use Rattle.zone_values.specs.{Values.{SavingValue, multiple, LineValue, space, zone, continuation, link}, Results.{◌>>=◌}}
-use Rattle.zone_plain_lines.specs.declared.cause.PlainCause.{PlainCause}
+use Rattle.zone_table.specs.{Values.{SavingValue, multiple, LineValue, space, zone, continuation, link}, Results.{◌>>=◌}}
+use Rattle.zone_plain_lines.specs.{declared.cause.PlainCause.{PlainCause}, PlainTexts.{plain_text}, LineFaults.{Refusal, too_long, numbered, by_line, onto}, Said.{if_said}}
 use Rattle.zone_plain_lines.specs.declared.cause.PlainCause.TheVariants as cause
-use Rattle.zone_plain_base.specs.{PlainTexts.{plain_text}, LineFaults.{Refusal, too_long, numbered, by_line, onto}, Said.{if_said}}
 use Rattle.zone_plain.specs.{Declares.{has_zone, has_ruleset, target_of}, Leads.{zone_behind}}
 
 -- RULES names a ruleset of which there is no rule

@@ -1,8 +1,8 @@
 -- What the code's maps stand for, and what its answers tell.
 use Rattle.std.specs.{Prelude.{◌≡◌, ℕ, List, [], ◌∷◌, ◌++◌, Bool, true, false, Option, Some, None, length, map, slice_get, unwrap_or}, FinMap.{FinMap, get, contains_key}}
 use Rattle.basics.specs.Keyed.{text_cmp}
-use Rattle.zone_values.specs.Values.{LineValue, space, link}
-use Rattle.zone_plain_base.specs.PlainTexts.{plain_text}
+use Rattle.zone_table.specs.Values.{LineValue, space, link}
+use Rattle.zone_plain_lines.specs.PlainTexts.{plain_text}
 use Rattle.zone_plain.specs.{Declares.{has_zone, has_ruleset, target_of}, Leads.{zone_behind}, declared.links.Declared.{Declared}, declared.links.Seen.{Seen}}
 
 -- the names of the zones

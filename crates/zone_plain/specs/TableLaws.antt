@@ -1,9 +1,8 @@
 -- The rulesets that a table has under the names that are made.
 use Rattle.std.{proofs.Common.{◌≡◌, ℕ, ◌<◌, ◌^◌, ℤ, Bool, true, false, cond, List, [], ◌∷◌, ◌++◌, length, map, reverse, Ok, refl, sym, ap, ◌∙◌, append_assoc, append-nil}, specs.Prelude.{bytes_eq}, proofs.lemmas.List.{reverse-append}}
-use Rattle.zone_values.specs.Values.{RuleValue, LineValue, rule}
-use Rattle.zone_table.specs.{Joined.{rules_of}, Owned.{owned_rule}}
+use Rattle.zone_table.specs.{Values.{RuleValue, LineValue, rule}, Joined.{rules_of}, Owned.{owned_rule}}
 use Rattle.zone_plain.specs.{Made.{rules_named, made_rule, made_info, name_in}, MadeLaws.{made_rules}, MadeNameLaws.{name_is_new}, MadeNames.{made_name}, Pairs.{Pair, is_among, pairs_of}, WrittenOut.{written_out}}
-use Rattle.zone_plain_base.specs.Renamed.{mark_of}
+use Rattle.zone_plain_lines.specs.Renamed.{mark_of}
 
 table_append : (xs ys : List LineValue) (name : List ℕ) → rules_of (xs ++ ys) name ≡ rules_of ys name ++ rules_of xs name
 table_append [] ys name = sym (append-nil (rules_of ys name))

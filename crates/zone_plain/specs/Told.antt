@@ -1,9 +1,8 @@
 -- What the code's answers tell.
 use Rattle.std.specs.Prelude.{◌≡◌, ℕ, List, [], ◌∷◌, ◌++◌, Bool, true, false, Result, Ok, Err}
-use Rattle.zone_values.specs.{Values.{LineValue}, Results.{◌>>=◌}}
-use Rattle.zone_plain_base.specs.{PlainTexts.{plain_text}, LineFaults.{LineFault, Refusal, at}, Said.{is_said}, declared.error.PlainFault.{PlainFault}, Marks.{behind}, Renamed.{renamed, ruleset_of}}
-use Rattle.zone_plain_base.specs.declared.error.PlainFault.TheVariants as fault
-use Rattle.zone_plain_lines.specs.declared.cause.PlainCause.{PlainCause}
+use Rattle.zone_table.specs.{Values.{LineValue}, Results.{◌>>=◌}}
+use Rattle.zone_plain_lines.specs.{PlainTexts.{plain_text}, LineFaults.{LineFault, Refusal, at}, Said.{is_said}, declared.error.PlainFault.{PlainFault}, Marks.{behind}, Renamed.{renamed, ruleset_of}, declared.cause.PlainCause.{PlainCause}}
+use Rattle.zone_plain_lines.specs.declared.error.PlainFault.TheVariants as fault
 use Rattle.zone_plain.specs.{LineValues.{line_meaning, is_open_after, named}, Plain.{if_short}, Settled.{settled}, Written.{written}, WrittenOut.{written_out}}
 
 -- what is added of a line of a source of that mark, if it can be said

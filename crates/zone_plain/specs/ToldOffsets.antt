@@ -1,10 +1,10 @@
 -- What the code's answers tell.
 use Rattle.std.specs.{Prelude.{◌≡◌, ℕ, suc, ℤ, List, [], ◌∷◌, ◌++◌, Bool, true, false, ◌&&◌, codes, flat_map, slice_index_or, unwrap_or, bytes_eq, if◌then◌else◌}, FinMap.{FinMap, get, insert}}
 use Rattle.basics.specs.{Keyed.{text_cmp}, Listed.{listed}}
-use Rattle.zone_values.specs.Values.{LineValue, space, rule}
+use Rattle.zone_table.specs.Values.{LineValue, space, rule}
 use Rattle.zone_plain.specs.{Pairs.{Pair, Asked, nothing, total, under, is_among, with_pair, joined_by, asked}, Written.{Part, line_text, part_text}}
 use Rattle.zone_plain.specs.{Made.{named_in, rules_for, are_rules_said, made_rule, is_rule_said, with_format, with_ruleset, around_text, changed_by}, OffsetTexts.{offset_text, has_text}}
-use Rattle.zone_plain_base.specs.Said.{is_said}
+use Rattle.zone_plain_lines.specs.Said.{is_said}
 
 -- the value at a place, from 0 on
 abbrev pub value_in : List LineValue → ℕ → LineValue

@@ -1,7 +1,7 @@
 -- What is written of the values of a source's lines.
 use Rattle.std.specs.Prelude.{ℕ, List, [], ◌∷◌, ◌++◌, Bool, true, false, flat_map, if◌then◌else◌}
-use Rattle.zone_values.specs.Values.{LineValue, zone, continuation, rule, link}
-use Rattle.zone_plain_base.specs.PlainTexts.{plain_text}
+use Rattle.zone_table.specs.Values.{LineValue, zone, continuation, rule, link}
+use Rattle.zone_plain_lines.specs.PlainTexts.{plain_text}
 
 -- the parts of what is written
 pub data Part : Type 0 where

@@ -1,9 +1,8 @@
 -- The lines of what is written.
 use Rattle.std.specs.{Prelude.{◌≡◌, ℕ, List, ◌++◌, All, false, filter, reverse}, Str.Lines.{strip_carriage_return}}
-use Rattle.zone_values.specs.Values.{LineValue}
+use Rattle.zone_table.specs.{Values.{LineValue}, Joined.{rules_of, zone_of, link_of}}
 use Rattle.zone_source.specs.Lines.{is_line_feed}
-use Rattle.zone_table.specs.Joined.{rules_of, zone_of, link_of}
-use Rattle.zone_plain_base.specs.PlainTexts.{plain_text}
+use Rattle.zone_plain_lines.specs.PlainTexts.{plain_text}
 use Rattle.zone_plain.specs.Written.{Rules, Zones, Links, is_in}
 
 -- the text has no line feed, and no carriage return at its end

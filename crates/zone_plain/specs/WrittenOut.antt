@@ -1,9 +1,9 @@
 -- A source's lines with `%z` written out, or why they are refused.
 use Rattle.std.specs.Prelude.{◌≡◌, ℕ, suc, List, [], ◌∷◌, ◌++◌, flat_map, length, map, not, nat_lt, Option, Some, None, Result, Ok, Err, if◌then◌else◌}
 use Rattle.zone_outside.specs.Limit.{text_limit}
-use Rattle.zone_values.specs.Values.{LineValue}
+use Rattle.zone_table.specs.Values.{LineValue}
 use Rattle.zone_plain_lines.specs.declared.cause.PlainCause.TheVariants as cause
-use Rattle.zone_plain_base.specs.LineFaults.{Refusal, at, bad_line, too_long}
+use Rattle.zone_plain_lines.specs.LineFaults.{Refusal, at, bad_line, too_long}
 use Rattle.zone_plain.specs.{Pairs.{Pair, asked, joined_by}, Written.{line_text, written}, Made.{is_changed_said, name_in, changed, made_for, made}}
 
 -- how many bytes the rules take that are made for pairs

@@ -1,7 +1,7 @@
 //! What `%z` asks of a line, the texts of totals that it is written out as, and pairs of a ruleset and an offset, each once.
 ghost use Rattle.std.specs.Prelude.{◌≡◌, option_map, string_bytes, IfOk, [], FitsSigned, OnOk, not};
 ghost use Rattle.zone_plain.specs.{Formats.{around_mark}, Made.{around_text, with_format, with_ruleset}, Shown.{parts_shown, asked_shown, pair_shown}, Pairs.{asked, asked_by, is_same, with_pair, number_of}};
-ghost use Rattle.zone_values.specs.Values.{line_value, info_value};
+ghost use Rattle.zone_table.specs.Values.{line_value, info_value};
 ghost use mir.Syntax.{w64};
 ghost use Rattle.std.specs.List.{list_any};
 

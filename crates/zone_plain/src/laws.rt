@@ -1,12 +1,10 @@
 //! Laws of what is written, and of what `%z` becomes.
 ghost use Rattle.std.specs.Prelude.{◌≡◌, ◌≤◌, ◌++◌, ℕ, All, List, Ok, length, option_and_then, true, ◌<◌, ◌^◌, ◌+ℤ◌, ℤ, [], Some, codes, map, reverse, slice_index_or, false};
-ghost use Rattle.zone_values.specs.{Values.{LineValue, InfoValue, multiple, space}, Seconds.{seconds_of}};
+ghost use Rattle.zone_table.specs.{Values.{LineValue, InfoValue, multiple, space}, Seconds.{seconds_of}, Joined.{rules_of}};
 ghost use Rattle.zone_plain.specs.{Needs.{IsPlain, has_zones_as_targets}, Heads.{head_of}, Kept.{HasNoOffsets}, LineValues.{meant_in}, Named.{IsSaidAsMeant}, Plain.{plain_of}, Rebuilt.{IsRebuilt}, Written.{written}, Declares.{has_zone, target_of}};
 ghost use Rattle.zone_plain.specs.{Leads.{zone_behind}, Settled.{settled}, Abbreviations.{IsNamedUnder, info_in, named_total, own_abbreviation, own_saving}, Formats.{around, around_mark}, Made.{made_info, name_in}, MadeNames.{made_name}};
 ghost use Rattle.zone_plain.specs.{OffsetTexts.{offset_text}, Pairs.{Pair, is_among, pairs_of}, WrittenOut.{written_out}};
-ghost use Rattle.zone_table.specs.Joined.{rules_of};
-ghost use Rattle.zone_plain_lines.specs.Columns.{is_format};
-ghost use Rattle.zone_plain_base.specs.Renamed.{mark_of};
+ghost use Rattle.zone_plain_lines.specs.{Columns.{is_format}, Renamed.{mark_of}};
 
 /// Of a source that needs nothing and whose rulesets have names that RULES can say each rule, each line of a zone and each link is
 /// written, as it was meant, under the source's own names and in the order of its part, behind the line of its release, if it names one,

@@ -15,4 +15,4 @@ pub use laws::{
 };
 pub use offsets::write_out;
 pub use whole::plain;
-pub use zone_plain_base::PlainFault;
+pub use zone_plain_lines::PlainFault;

@@ -1,20 +1,19 @@
 //! Links in any order and links to links, each led to its zone; and why a source as a whole is refused.
 ghost use Rattle.std.specs.{Prelude.{◌≡◌, ℕ, List, [], ◌∷◌, ◌++◌, map as each, length, IfOk, OnOk, unwrap_or, Ok, None, Some, option_map, bytes_eq, slice_get, IfErr}, Option.{option_or}};
 ghost use Rattle.std.specs.FinMap as map;
-ghost use Rattle.zone_values.specs.Values.{LineValue, line_value, saving_value};
-ghost use Rattle.zone_values.specs.Values as value;
-ghost use Rattle.zone_values.specs.declared.line.Line.TheVariants as kind;
+ghost use Rattle.zone_table.specs.Values.{LineValue, line_value, saving_value};
+ghost use Rattle.zone_table.specs.Values as value;
+ghost use Rattle.zone_table.specs.declared.line.Line.TheVariants as kind;
 ghost use Rattle.zone_plain.specs.{Stands.{IsDeclared, AddsTarget, IsKnown, IsBehind, LeadsTo, IsAt, IsLinkText, line_at_place, names_of}, Declares.{has_zone, target_of}, Settled.{lacks_rules, link_size, link_after, settled_line, settled_link, settled}};
 ghost use Rattle.zone_plain.specs.declared.links.Declared.{Declared};
-ghost use Rattle.zone_plain_base.specs.{Told.{IsRefused}, LineFaults.{IsFaultOf}};
+ghost use Rattle.zone_plain_lines.specs.{Told.{IsRefused}, LineFaults.{IsFaultOf}};
 
 use basics::{Text, TextMap};
 use std::alloc::{AllocError, Global};
 use zone_line::{Line, LineReader};
-use zone_plain_base::{PlainFault, Refused, fault_at, write_said};
-use zone_plain_lines::PlainCause;
+use zone_plain_lines::{PlainCause, PlainFault, Refused, fault_at, write_said};
 use zone_source::LIMIT;
-use zone_values::{Link, Saving, Zone};
+use zone_table::{LineSaving as Saving, Link, Zone};
 
 /// The names that a source declares.
 #[derive(Drop)]

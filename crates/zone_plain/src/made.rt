@@ -1,16 +1,16 @@
 //! The rulesets that are made, their names, and the text that stands for `%z`.
 ghost use Rattle.std.specs.{Prelude.{◌≡◌, [], ◌∷◌, map, flat_map, IfOk, ◌<◌, ◌++◌, decimal, string_bytes, OnOk, ◌+◌, ◌+ℤ◌, true, Some, None, if◌then◌else◌}, List.{list_all}};
-ghost use Rattle.zone_values.specs.{Values.{line_value, rule_value, rule}, Seconds.{seconds_of}};
+ghost use Rattle.zone_table.specs.{Values.{line_value, rule_value, rule}, Seconds.{seconds_of}};
 ghost use Rattle.zone_plain.specs.{Made.{made_rule, is_rule_said, renamed}, ToldOffsets.{IsAdded, AreAdded, value_in, made_lines, is_made_said}, MadeNames.{letter, made_name}, OffsetTexts.{seconds_text, minutes_text, offset_text, has_text}};
-ghost use Rattle.zone_plain_base.specs.PlainTexts.{two_digits};
+ghost use Rattle.zone_plain_lines.specs.PlainTexts.{two_digits};
 
 use crate::offsets::line_in;
 use crate::parts::put_text;
 use itoa::Buffer;
 use std::alloc::{AllocError, Global};
 use zone_line::{Line, LineReader, Rule};
-use zone_plain_base::write_said;
-use zone_values::TimeSpec;
+use zone_plain_lines::write_said;
+use zone_table::TimeSpec;
 
 /// Whether a total has a text: its hours have two digits.
 pub(crate) fn has_text(total: i64) -> bool

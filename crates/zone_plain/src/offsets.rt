@@ -1,9 +1,9 @@
 //! The lines of a source with `%z` written out.
 ghost use Rattle.std.specs.{Prelude.{◌≡◌, [], map, unwrap_or, IfOk, OnOk, ◌∷◌, ◌&&◌, codes, string_bytes, IfErr}, FinMap.{get}};
-ghost use Rattle.zone_values.specs.Values.{line_value};
+ghost use Rattle.zone_table.specs.Values.{line_value};
 ghost use Rattle.zone_plain.specs.{ToldOffsets.{IsGrouped, value_in, with_place, IsAdded, AreAdded, IsWrittenOut, new_rules, are_new_said}, WrittenOut.{IsWrittenAs, written_out}};
 ghost use Rattle.zone_plain.specs.{Made.{with_format, with_ruleset, around_text, named_in, rules_for, are_rules_said}, Pairs.{with_pair}, OffsetTexts.{offset_text, has_text}, Shown.{parts_shown, pair_shown, text_in}};
-ghost use Rattle.zone_plain_base.specs.{LineFaults.{IsFaultOf}, Said.{is_said}, Renamed.{mark_of}};
+ghost use Rattle.zone_plain_lines.specs.{LineFaults.{IsFaultOf}, Said.{is_said}, Renamed.{mark_of}};
 
 use crate::asked::{
     Around, Asked, Pair, Pairs, around_text, asked_of, offset_of, with_format, with_ruleset,
@@ -13,8 +13,7 @@ use crate::parts::{Parts, joined, put_in_part};
 use basics::{Items, TextMap};
 use std::alloc::{AllocError, Global};
 use zone_line::{Line, LineReader};
-use zone_plain_base::{PlainFault, mark_of};
-use zone_plain_lines::PlainCause;
+use zone_plain_lines::{PlainCause, PlainFault, mark_of};
 use zone_source::LIMIT;
 
 /// The line at a place, which counts from 0; nothing past the end.

@@ -1,11 +1,11 @@
 //! What is written, by its parts.
 ghost use Rattle.std.specs.Prelude.{◌≡◌, [], ◌∷◌, ◌++◌, IfOk, OnOk};
-ghost use Rattle.zone_values.specs.Values.{line_value};
+ghost use Rattle.zone_table.specs.Values.{line_value};
 ghost use Rattle.zone_plain.specs.Written.{Rules, Zones, Links, line_text, part_text};
 
 use std::alloc::{AllocError, Global};
 use zone_line::Line;
-use zone_plain_base::put_plain;
+use zone_plain_lines::put_plain;
 
 /// What is written, by its parts.
 #[derive(Drop)]

@@ -1,19 +1,18 @@
 //! The plain form of a source: the line of its release; its mark; its lines, read, led through the stages and written out.
 ghost use Rattle.std.specs.Prelude.{◌≡◌, IfOk, IfErr, ◌≤◌, Ok, map, length, Some, ◌++◌, codes, false, string_bytes, OnOk};
-ghost use Rattle.zone_values.specs.Values.{line_value, space};
+ghost use Rattle.zone_table.specs.Values.{line_value, space};
 ghost use Rattle.zone_plain.specs.{LineValues.{is_open_after, mark_in, values_in, known, meant_in}, Told.{IsAddedLine, IsReadLine, added_line, IsLineFault, with_lines}, Plain.{plain_of}, Rebuilt.{IsRebuilt}, Heads.{is_silent, head_with, head_of}};
-ghost use Rattle.zone_plain_base.specs.{Told.{IsRefused}, LineFaults.{IsFaultOf}, Marks.{behind, tails}, Renamed.{renamed, ruleset_of}, Said.{is_said}};
+ghost use Rattle.zone_plain_lines.specs.{Told.{IsRefused}, LineFaults.{IsFaultOf}, Marks.{behind, tails}, Renamed.{renamed, ruleset_of}, Said.{is_said}};
 ghost use Rattle.zone_source.specs.Zones.{source_value};
 
 use crate::links::settle;
 use crate::offsets::write_out;
 use std::alloc::{AllocError, Global};
 use zone_line::{Line, LineParser, LineReader};
-use zone_plain_base::{
-    PlainFault, Refused, behind_underscore, fault_at, is_read, line_at, line_meant, lines_read,
-    mark_behind, said_name_of, under, write_said,
+use zone_plain_lines::{
+    PlainCause, PlainFault, Refused, behind_underscore, fault_at, is_read, line_at, line_meant,
+    lines_read, mark_behind, said_name_of, under, write_said,
 };
-use zone_plain_lines::PlainCause;
 use zone_source::{LIMIT, LineList, Lines, put_release_line, release_of, text_of};
 
 /// Whether the line is read as one that says nothing.

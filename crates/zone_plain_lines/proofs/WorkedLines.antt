@@ -1,10 +1,7 @@
 -- Fields, times, days, columns and whole lines at worked rows.
 use Rattle.std.{proofs.Common.{◌≡◌, ℕ, [], ◌∷◌, map, true, false, Some, None, Ok, Err, refl, pos, negsuc, length, List}, specs.Prelude.{codes}}
 use Rattle.basics.specs.{Days.{days_in_month, is_leap}, Numbers.{signed_in, value_in}}
-use Rattle.zone_values.specs.{Seconds.{with_type}, Values.{no_saving, one_off, multiple, space, zone, continuation, rule, link}, declared.change.ChangeTime.TheVariants.{UntilYear, UntilMonth, UntilDay, UntilTime}}
-use Rattle.zone_values.specs.declared.{day.DaySpec.TheVariants.{Ordinal, Last, LastOnOrBefore, FirstOnOrAfter}, month.Month.{Month}, month.Month.TheVariants.{January, February, March, April, May, June, July, August, September, October, November, December}}
-use Rattle.zone_values.specs.declared.{time.TimeSpec.TheVariants.{Hours, HoursMinutes, HoursMinutesSeconds}, time.TimeType.TheVariants.{Wall, Standard, UTC}, weekday.Weekday.TheVariants.{Sunday, Wednesday, Friday, Saturday}}
-use Rattle.zone_values.specs.declared.year.Year.TheVariants.{Minimum, Maximum, Number}
+use Rattle.zone_table.specs.{Seconds.{with_type}, Values.{no_saving, one_off, multiple, space, zone, continuation, rule, link}, declared.change.ChangeTime.TheVariants.{UntilYear, UntilMonth, UntilDay, UntilTime}, declared.{day.DaySpec.TheVariants.{Ordinal, Last, LastOnOrBefore, FirstOnOrAfter}, month.Month.{Month}, month.Month.TheVariants.{January, February, March, April, May, June, July, August, September, October, November, December}, time.TimeSpec.TheVariants.{Hours, HoursMinutes, HoursMinutesSeconds}, time.TimeType.TheVariants.{Wall, Standard, UTC}, weekday.Weekday.TheVariants.{Sunday, Wednesday, Friday, Saturday}}, declared.year.Year.TheVariants.{Minimum, Maximum, Number}}
 use Rattle.zone_plain_lines.specs.Clocks.{amount, clock_spec, amount_spec, rounded, second_of, minutes_below, unsigned, clock_of, amount_of, saved, marked, at_of}
 use Rattle.zone_plain_lines.specs.{Columns.{numbered_year, year_of, to_of, years_of, type_of, letters_of, ruleset_name, zone_name, saving_of, is_format}, Days.{day_number, side_of, sided, day_of, if_there}}
 use Rattle.zone_plain_lines.specs.{Meanings.{offset_of, save_of, moment_of, rule_of, end_at, end_of, info_of, link_of, first_line_of, meaning}, Numbers.{number_between}, Quotes.{fields, laid_out, pieces, has_bad_quotes}}

@@ -1,8 +1,7 @@
 -- Words and years at worked rows.
 use Rattle.std.{proofs.Common.{◌≡◌, ℕ, [], ◌∷◌, map, Some, None, Ok, Err, refl, pos, negsuc, length}, specs.Prelude.{codes}}
 use Rattle.basics.specs.Numbers.{signed_in}
-use Rattle.zone_values.specs.declared.{month.Month.TheVariants.{January, February, March, April, May, June, July, August, September, October, November, December}, weekday.Weekday.TheVariants.{Sunday, Monday, Tuesday, Wednesday, Thursday, Friday, Saturday}}
-use Rattle.zone_values.specs.declared.year.Year.TheVariants.{Minimum, Maximum, Number}
+use Rattle.zone_table.specs.{declared.{month.Month.TheVariants.{January, February, March, April, May, June, July, August, September, October, November, December}, weekday.Weekday.TheVariants.{Sunday, Monday, Tuesday, Wednesday, Thursday, Friday, Saturday}}, declared.year.Year.TheVariants.{Minimum, Maximum, Number}}
 use Rattle.zone_plain_lines.specs.{Columns.{numbered_year, year_of, to_of, years_of}, Words.{meant, line_word, month_word, month_of, weekday_of, last_weekday_of, from_word, to_word}}
 use Rattle.zone_plain_lines.specs.Words as words
 use Rattle.zone_plain_lines.specs.declared.cause.PlainCause.TheVariants as cause

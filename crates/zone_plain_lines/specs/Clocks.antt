@@ -2,8 +2,7 @@
 use Rattle.std.specs.Prelude.{ℕ, ◌+◌, ◌*◌, ◌/◌, ◌%◌, ◌-◌, ℤ, pos, neg_ℤ, Bool, true, false, ◌&&◌, ◌||◌, not, ◌==◌, List, [], ◌∷◌, length, slice_index, Option, Some, None, option_map, Result, Ok, Err, ok_or, codes, bytes_eq, nat_lt, if◌then◌else◌}
 use Rattle.std.specs.{List.{list_all}, Option.{option_map_or}}
 use Rattle.basics.specs.{Marks.{after_mark, before_mark, cut}, Numbers.{is_numeral}}
-use Rattle.zone_values.specs.{Seconds.{with_type}, declared.time.TimeSpec.{TimeSpec}, declared.time.TimeSpec.TheVariants.{Hours, HoursMinutes, HoursMinutesSeconds}, declared.time.TimeType.{TimeType}, declared.time.TimeType.TheVariants.{Wall, Standard, UTC}}
-use Rattle.zone_values.specs.{declared.time.TimeSpecAndType.{TimeSpecAndType}, Results.{◌>>=◌}}
+use Rattle.zone_table.specs.{Seconds.{with_type}, declared.time.TimeSpec.{TimeSpec}, declared.time.TimeSpec.TheVariants.{Hours, HoursMinutes, HoursMinutesSeconds}, declared.time.TimeType.{TimeType}, declared.time.TimeType.TheVariants.{Wall, Standard, UTC}, declared.time.TimeSpecAndType.{TimeSpecAndType}, Results.{◌>>=◌}}
 use Rattle.zone_plain_lines.specs.{Numbers.{number_between}, Steps.{then_some}, declared.cause.PlainCause.{PlainCause}, declared.clock.Amount.{Amount}}
 use Rattle.zone_plain_lines.specs.declared.cause.PlainCause.TheVariants as cause
 

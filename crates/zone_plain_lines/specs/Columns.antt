@@ -2,7 +2,7 @@
 use Rattle.std.specs.{Prelude.{ℕ, ◌^◌, Bool, true, false, ◌&&◌, ◌||◌, not, ◌==◌, List, [], ◌∷◌, map, slice_index_or, Option, Some, None, option_map, Result, Ok, Err, ok_or, codes, bytes_eq, int_lt, if◌then◌else◌}, Borrow.{Bor}, Char.{is_ascii_digit}}
 use Rattle.std.specs.{List.{list_any}, Option.{option_map_or}}
 use Rattle.basics.specs.{Marks.{cut}, Numbers.{signed_in}, Paths.{has_parts}}
-use Rattle.zone_values.specs.{Values.{SavingValue, no_saving, one_off, multiple}, declared.year.Year.{Year}, declared.year.Year.TheVariants.{Minimum, Maximum, Number}, Results.{◌>>=◌}}
+use Rattle.zone_table.specs.{Values.{SavingValue, no_saving, one_off, multiple}, declared.year.Year.{Year}, declared.year.Year.TheVariants.{Minimum, Maximum, Number}, Results.{◌>>=◌}}
 use Rattle.zone_plain_lines.specs.{Clocks.{clock_spec, saved}, Quotes.{is_white}, Words.{from_word, to_word}, declared.cause.PlainCause.{PlainCause}}
 use Rattle.zone_plain_lines.specs.declared.cause.PlainCause.TheVariants as cause
 

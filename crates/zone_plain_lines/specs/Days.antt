@@ -1,8 +1,7 @@
 -- The days of a month that rules and ends name.
 use Rattle.std.specs.{Prelude.{ℕ, ◌==◌, ℤ, pos, Bool, false, ◌&&◌, not, List, Option, Some, None, Result, Ok, Err, ok_or, if◌then◌else◌}, Option.{option_map_or}, Ordering.{int_eq}}
 use Rattle.basics.specs.{Days.{days_in_month, is_leap}, Marks.{after_mark, cut}}
-use Rattle.zone_values.specs.{Months.{month_number}, declared.day.DaySpec.{DaySpec}, declared.day.DaySpec.TheVariants.{Ordinal, Last, LastOnOrBefore, FirstOnOrAfter}, declared.month.Month.{Month}, declared.weekday.Weekday.{Weekday}, declared.year.Year.{Year}}
-use Rattle.zone_values.specs.{declared.year.Year.TheVariants.{Minimum, Maximum, Number}, Results.{◌>>=◌}}
+use Rattle.zone_table.specs.{Months.{month_number}, declared.day.DaySpec.{DaySpec}, declared.day.DaySpec.TheVariants.{Ordinal, Last, LastOnOrBefore, FirstOnOrAfter}, declared.month.Month.{Month}, declared.weekday.Weekday.{Weekday}, declared.year.Year.{Year}, declared.year.Year.TheVariants.{Minimum, Maximum, Number}, Results.{◌>>=◌}}
 use Rattle.zone_plain_lines.specs.{Columns.{is_after}, Numbers.{number_between}, Words.{weekday_of, last_weekday_of}, declared.cause.PlainCause.{PlainCause}}
 use Rattle.zone_plain_lines.specs.declared.cause.PlainCause.TheVariants as cause
 

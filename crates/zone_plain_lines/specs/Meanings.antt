@@ -1,8 +1,6 @@
 -- What a line means in its place, by its fields.
 use Rattle.std.specs.Prelude.{ℕ, ◌+◌, ◌-◌, Bool, true, false, ◌||◌, not, ◌==◌, nat_lt, List, length, Option, Some, None, Result, Ok, Err, if◌then◌else◌}
-use Rattle.zone_values.specs.{Values.{SavingValue, no_saving, one_off, multiple, InfoValue, RuleValue, LineValue, space, zone, continuation, rule, link}, declared.change.ChangeTime.{ChangeTime}}
-use Rattle.zone_values.specs.declared.{change.ChangeTime.TheVariants.{UntilYear, UntilMonth, UntilDay, UntilTime}, day.DaySpec.{DaySpec}, month.Month.{Month}, time.TimeSpec.{TimeSpec}, time.TimeSpecAndType.{TimeSpecAndType}, year.Year.{Year}}
-use Rattle.zone_values.specs.Results.{◌>>=◌}
+use Rattle.zone_table.specs.{Values.{SavingValue, no_saving, one_off, multiple, InfoValue, RuleValue, LineValue, space, zone, continuation, rule, link}, declared.change.ChangeTime.{ChangeTime}, declared.{change.ChangeTime.TheVariants.{UntilYear, UntilMonth, UntilDay, UntilTime}, day.DaySpec.{DaySpec}, month.Month.{Month}, time.TimeSpec.{TimeSpec}, time.TimeSpecAndType.{TimeSpecAndType}, year.Year.{Year}}, Results.{◌>>=◌}}
 use Rattle.zone_plain_lines.specs.{Clocks.{amount_of, amount_spec, at_of, saved}, Columns.{column, year_of, years_of, type_of, ruleset_name, zone_name, saving_of, is_format, letters_of}, Days.{day_of, if_there}, Words.{line_word, month_of}}
 use Rattle.zone_plain_lines.specs.declared.{cause.PlainCause.{PlainCause}, words.LineWord.{LineWord}}
 use Rattle.zone_plain_lines.specs.declared.cause.PlainCause.TheVariants as cause

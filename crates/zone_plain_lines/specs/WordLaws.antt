@@ -1,7 +1,7 @@
 -- What a text stands for among words, told of its word and of the others.
 use Rattle.std.proofs.{Common.{◌≡◌, ℕ, List, [], ◌∷◌, ◌++◌, map, filter, Bool, true, false, cond, ◌||◌, Option, Some, None, Ok, refl, sym, ap, ◌∙◌}, lemmas.List.Elements.{filter-append}}
 use Rattle.std.specs.{Prelude.{ok_or, unwrap_or}, List.{list_any}, Result.{result_ok}}
-use Rattle.zone_values.specs.declared.{month.Month.{Month}, weekday.Weekday.{Weekday}, year.Year.{Year}}
+use Rattle.zone_table.specs.declared.{month.Month.{Month}, weekday.Weekday.{Weekday}, year.Year.{Year}}
 use Rattle.zone_plain_lines.specs.{Words.{Word, begins, alone, meant, line_words, line_word, months, month_word, month_of, weekdays, weekday_of, from_words, from_word, to_words, to_word}, declared.cause.PlainCause.{PlainCause}}
 use Rattle.zone_plain_lines.specs.declared.words.LineWord.{LineWord}
 

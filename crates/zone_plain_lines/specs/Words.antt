@@ -1,8 +1,8 @@
 -- Words in any case, in full or abbreviated to a beginning that fits one word of their list alone; a word in full is such a beginning, since no
 -- word of a list begins another.
 use Rattle.std.specs.{Prelude.{ℕ, List, [], ◌∷◌, drop, length, take, Bool, ◌&&◌, Option, Some, None, Result, ok_or, codes, bytes_eq, nat_le, filter, if◌then◌else◌}, Borrow.{Bor}}
-pub use Rattle.zone_values.specs.{Months.{named_months as months}, Weekdays.{named_weekdays as weekdays}}
-use Rattle.zone_values.specs.{Names.{lower}, declared.month.Month.{Month}, declared.weekday.Weekday.{Weekday}, declared.year.Year.{Year}, declared.year.Year.TheVariants.{Minimum, Maximum}}
+pub use Rattle.zone_table.specs.{Months.{named_months as months}, Weekdays.{named_weekdays as weekdays}}
+use Rattle.zone_table.specs.{Names.{lower}, declared.month.Month.{Month}, declared.weekday.Weekday.{Weekday}, declared.year.Year.{Year}, declared.year.Year.TheVariants.{Minimum, Maximum}}
 use Rattle.zone_plain_lines.specs.declared.{cause.PlainCause.{PlainCause}, words.LineWord.{LineWord}, words.LineWord.TheVariants.{Rule, Zone, Link}}
 use Rattle.zone_plain_lines.specs.declared.cause.PlainCause.TheVariants as cause
 

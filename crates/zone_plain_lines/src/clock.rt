@@ -8,7 +8,7 @@ use crate::cause::PlainCause;
 use crate::lines::is_after;
 use crate::words::{last_weekday_of, weekday_of};
 use basics::{after_mark, before_mark, cut, is_numeral, month_length, u8_of_digits};
-use zone_values::{DaySpec, Month, TimeSpec, TimeSpecAndType, TimeType, Weekday, Year};
+use zone_table::{DaySpec, Month, TimeSpec, TimeSpecAndType, TimeType, Weekday, Year};
 
 /// The number that ASCII digits write, where it is from the first to the last of two numbers.
 #[tactic(auto, unfolding(crate::specs::Numbers::number_between))]

@@ -1,6 +1,6 @@
 //! The columns of lines, and what the lines mean.
 ghost use Rattle.std.specs.Prelude.{◌≡◌, option_map, ◌≤◌, length};
-ghost use Rattle.zone_values.specs.Values.{saving_value, line_value, link, rule_value, info_value};
+ghost use Rattle.zone_table.specs.Values.{saving_value, line_value, link, rule_value, info_value};
 ghost use Rattle.zone_plain_lines.specs.Steps.{shown_by};
 ghost use Rattle.zone_plain_lines.specs.Columns.{column, texts, numbered_year, year_of, to_of, is_after, years_of, type_of, begins_number, begins_white, ruleset_name, zone_name, saving_of, is_filled, is_letter, has_byte, is_format, letters_of};
 ghost use Rattle.zone_plain_lines.specs.Meanings.{offset_of, save_of, moment_of, end_of, end_at, info_of, rule_of, link_of, meaning, first_line_of, is_ruled};
@@ -10,9 +10,9 @@ use crate::clock::{amount_of, amount_spec, at_of, clock_spec, day_of, if_there, 
 use crate::quotes::is_white;
 use crate::words::{LineWord, from_word, line_word, month_of, to_word};
 use basics::{cut, has_parts, i64_in};
-use zone_values::{
-    ChangeTime, DaySpec, Line, Link, Month, Rule, Saving, TimeSpec, TimeSpecAndType, Year, Zone,
-    ZoneInfo,
+use zone_table::{
+    ChangeTime, DaySpec, Line, LineInfo as ZoneInfo, LineSaving as Saving, Link, Month, Rule,
+    TimeSpec, TimeSpecAndType, Year, Zone,
 };
 
 /// The field at a place, which counts from 0; nothing past the end.

@@ -3,7 +3,7 @@ ghost use Rattle.std.specs.Prelude.{◌≡◌, map, codes};
 ghost use Rattle.zone_plain_lines.specs.Words.{begins, meant, shown, line_word, month_word, month_of, weekday_of, last_weekday_of, from_word, to_word};
 
 use crate::cause::PlainCause;
-use zone_values::{Month, Weekday, Year};
+use zone_table::{Month, Weekday, Year};
 
 /// The words that lines begin with.
 const LINES: [(&str, LineWord); 3] = [

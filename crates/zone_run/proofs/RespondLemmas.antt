@@ -3,7 +3,7 @@ use Rattle.std.{proofs.Common.{◌≡◌, ℕ, List, [], ◌∷◌, ◌++◌, Op
 use Rattle.zone_source.specs.{FaultLines.{source_line}, Faults.{SourceFault, source_fault}, Told.{told_by_source, TellsOfSource}, Zones.{values_of}, declared.error.SourceError.{SourceError}, Responses.{IsLineOf}}
 use Rattle.zone_source.specs.declared.error.SourceError.TheVariants as source_error
 use Rattle.zone_table.specs.{Tables.{IsTableOf}, declared.table.Table.{Table}}
-use Rattle.tz_zone.specs.{Compiles.{spans_of}, declared.set.FixedTimespanSet.{FixedTimespanSet}}
+use Rattle.tz_lookup.specs.{Compiles.{spans_of}, declared.set.FixedTimespanSet.{FixedTimespanSet}}
 use Rattle.zone_run.specs.{Causes.{Cause, of_source, of_zone, of_program, zone_cause, named, cause}, FoundLaws.{found_is}, Due.{answer, cause_line, due_bytes, zone_line}, Readings.{Reading, Spans, ZoneCause, found_in, found_in_table}, Tasks.{Task}}
 
 module _ (read : Reading Spans) (label : List ℕ) (task : Task) (source bytes : List ℕ) where

@@ -1,6 +1,6 @@
 -- What is asked of a zone, and what a program answers.
 use Rattle.std.specs.{Prelude.{◌≡◌, ℕ, List, Option, Some, None, Result, Ok, Err, Vec}, declared.alloc.Global.{Global}}
-use Rattle.tz_zone.specs.declared.set.FixedTimespanSet.{FixedTimespanSet}
+use Rattle.tz_lookup.specs.declared.set.FixedTimespanSet.{FixedTimespanSet}
 use Rattle.zone_run.specs.declared.program.Refusal.{Refusal, TheVariants.{Cause, NoMemory}}
 
 -- of the spans of a zone, the program's own cause to refuse them, if there is one, and the bytes that are due if not

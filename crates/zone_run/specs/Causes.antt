@@ -2,7 +2,7 @@
 use Rattle.std.specs.{Prelude.{ℕ, List, Option, Some, Ok, Err, option_map}, Option.{option_or}}
 use Rattle.zone_source.specs.Faults.{SourceFault, source_fault}
 use Rattle.zone_spans.specs.declared.span.FixedTimespanSet as spans
-use Rattle.tz_zone.specs.declared.set.FixedTimespanSet.{FixedTimespanSet}
+use Rattle.tz_lookup.specs.declared.set.FixedTimespanSet.{FixedTimespanSet}
 use Rattle.zone_run.specs.{Readings.{Found, Reading, Spans, ZoneCause, found_in}, Tasks.{Task}}
 
 -- the source has a fault; the zone can't be asked; the program refuses it

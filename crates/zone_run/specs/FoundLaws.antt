@@ -4,8 +4,8 @@ use Rattle.zone_source.specs.Zones.{values_of, zone_in, rules_in}
 use Rattle.zone_spans.specs.{Compiled.{compiled}, Lines.{Rulesets}, Schedules.{is_in_offset_range, totals_of}, declared.fault.SpanFault.{SpanFault}}
 use Rattle.zone_spans.specs.declared.span.FixedTimespanSet as spans
 use Rattle.zone_table.specs.{Resolved.{resolved_in-IsTableOf}, Tables.{IsTableOf}, declared.table.Table.{Table}, declared.zone.ZoneInfo.{ZoneInfo}}
-use Rattle.tz_zone.specs.{Compiles.{IsZoneFault, spans_of}, Sets.{schedule_of}, declared.compile.ZoneFault.{ZoneFault}, declared.set.FixedTimespanSet.{FixedTimespanSet}}
-use Rattle.tz_zone.specs.declared.compile.ZoneFault.TheVariants as zone
+use Rattle.tz_lookup.specs.{Compiles.{IsZoneFault, spans_of}, Sets.{schedule_of}, declared.compile.ZoneFault.{ZoneFault}, declared.set.FixedTimespanSet.{FixedTimespanSet}}
+use Rattle.tz_lookup.specs.declared.compile.ZoneFault.TheVariants as zone
 use Rattle.zone_run.specs.{Readings.{Reading, found_in, found_in_table, found_under, given_of, given_to_2099, offset_range, unknown_zone}, Responses.{TellsCause}, declared.found.FindFault.TheVariants.{Zone}}
 
 pub found_is : {X : Type 0} (read : Reading X) (table : Table) (source : List ℕ) → IsTableOf table (values_of source)

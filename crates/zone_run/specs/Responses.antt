@@ -1,6 +1,6 @@
 -- What the parts of a run find out.
 use Rattle.std.specs.Prelude.{◌≡◌, Option, Some, None, IfSome, Err}
-use Rattle.tz_zone.specs.declared.compile.ZoneFault.TheVariants as zone
+use Rattle.tz_lookup.specs.declared.compile.ZoneFault.TheVariants as zone
 use Rattle.zone_run.specs.{Readings.{Found, ZoneCause, unknown_zone, bad_schedule, offset_range, rules_end}, declared.found.FindFault.{FindFault}, declared.found.FindFault.TheVariants.{Zone, RulesEnd}}
 
 -- the cause that a fault tells; want of memory tells none

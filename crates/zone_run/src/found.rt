@@ -1,7 +1,7 @@
 //! Zones as programs ask them.
 ghost use Rattle.std.specs.Prelude.{◌≡◌, IfErr, IfOk, Ok};
 ghost use Rattle.zone_table.specs.BoundedTables.{IsBoundedTable};
-ghost use Rattle.tz_zone.specs.{Compiles.{spans_of}, Sets.{IsAccepted, schedule_of}, declared.set.FixedTimespanSet.{FixedTimespanSet}};
+ghost use Rattle.tz_lookup.specs.{Compiles.{spans_of}, Sets.{IsAccepted, schedule_of}, declared.set.FixedTimespanSet.{FixedTimespanSet}};
 ghost use Rattle.zone_run.specs.{Readings.{Reading, Spans, found_in_table}, Responses.{TellsCause}};
 
 use std::alloc::Global;

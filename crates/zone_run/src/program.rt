@@ -1,6 +1,6 @@
 //! What a program says of a zone.
 ghost use Rattle.std.specs.Prelude.{◌≡◌, ℕ, List, Option, map, option_map, string_bytes};
-ghost use Rattle.tz_zone.specs.Sets.{schedule_of, IsAccepted};
+ghost use Rattle.tz_lookup.specs.Sets.{schedule_of, IsAccepted};
 ghost use Rattle.zone_run.specs.Asked.{Answers, Asked};
 
 use crate::found::FoundZone;

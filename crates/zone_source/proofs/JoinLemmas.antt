@@ -1,9 +1,8 @@
 -- The source lines join one after another.
 use Rattle.std.proofs.{Common.{◌≡◌, ℕ, suc, ◌+◌, length, map, true, List, [], ◌∷◌, ◌++◌, Option, Some, None, MatchOption, reverse, option_map, Ok, sym, ap, subst, ◌∙◌}, lemmas.List.{reverse-append}}
 use Rattle.std.specs.{List.{list_all}, Option.{option_or}, Str.{is_utf8}}
-use Rattle.zone_values.specs.{Bounds.{is_bounded_line}, Values.{LineValue}}
+use Rattle.zone_table.specs.{LineBounds.{is_bounded_line}, Values.{LineValue}, Built.{Built, StandsFor, Joins}, Refusals.{refusal, Accepted}}
 use Rattle.zone_line.specs.LineValues.{value}
-use Rattle.zone_table.specs.{Built.{Built, StandsFor, Joins}, Refusals.{refusal, Accepted}}
 use Rattle.zone_source.specs.{Joining.{Takes}, Lines.{lines_of}, Zones.{source_value, values_of}, Told.{told_by_source, TellsOfSource}, declared.error.SourceError.{SourceError}, declared.error.SourceError.TheVariants.{NoMemory}}
 use Rattle.zone_source.specs.Faults.{SourceFault, bad_join, kind_of, join_refusal, line_refusal, first_line_refused, source_fault}
 

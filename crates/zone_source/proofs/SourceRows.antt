@@ -3,9 +3,8 @@ use Rattle.std.{proofs.Common.{◌≡◌, ℕ, List, [], ◌∷◌, ◌++◌, ma
 use Rattle.zone_source.specs.{FaultLines.{source_line}, Faults.{SourceFault, source_fault, first_line_refused, kind_of, line_refusal, not_text, bad_line, bad_join}, Lines.{lines_of}, Statuses.{code_of, status_of}}
 use Rattle.zone_source.specs.declared.{error.BuildKind.TheVariants.{SurpriseContinuationLine, UnknownRuleset, DuplicateLink, DuplicateZone}, running.Status.TheVariants.{Done, Words, Fault, Read, Write, NoMemory, TooLong}}
 use Rattle.zone_outside.specs.declared.outside.ReadEnd.TheVariants as end
-use Rattle.zone_table.specs.Refusals.{surprise_continuation_line, unknown_ruleset, duplicate_link, duplicate_zone}
-use Rattle.zone_values.specs.Faults.{refused}
-use Rattle.zone_values.specs.declared.fault.FaultKind.TheVariants as kind
+use Rattle.zone_table.specs.{Refusals.{surprise_continuation_line, unknown_ruleset, duplicate_link, duplicate_zone}, Faults.{refused}}
+use Rattle.zone_table.specs.declared.fault.FaultKind.TheVariants as kind
 
 -- each line feed ends a line, and so does the end of a text that has more than nothing after the last one
 cut_at_line_feeds : map lines_of

@@ -1,6 +1,6 @@
 -- The lines that tell a fault of a source.
 use Rattle.std.specs.Prelude.{ℕ, ◌+◌, ◌≤◌, List, [], ◌++◌, length, codes, decimal}
-use Rattle.zone_values.specs.Faults as line
+use Rattle.zone_table.specs.Faults as line
 use Rattle.zone_source.specs.{Faults.{SourceFault, not_text, bad_line, bad_join}, declared.error.BuildKind.{BuildKind}, declared.error.BuildKind.TheVariants.{SurpriseContinuationLine, UnknownRuleset, DuplicateLink, DuplicateZone}}
 use Rattle.zone_source.specs.declared.fault_line.FaultText.{FaultText}
 

@@ -1,9 +1,8 @@
 -- Why a source is refused, with the number of its line.
 use Rattle.std.specs.{Prelude.{ℕ, suc, List, [], ◌∷◌, ◌++◌, Option, Some, None, option_map, reverse, Result, Ok, Err, if◌then◌else◌}, Option.{option_or}, Str.{is_utf8}}
-use Rattle.zone_values.specs.Values.{LineValue}
-use Rattle.zone_values.specs.Faults as line
+use Rattle.zone_table.specs.{Values.{LineValue}, Refusals.{Refusal, surprise_continuation_line, unknown_ruleset, duplicate_link, duplicate_zone, refusal}}
+use Rattle.zone_table.specs.Faults as line
 use Rattle.zone_line.specs.LineValues.{value}
-use Rattle.zone_table.specs.Refusals.{Refusal, surprise_continuation_line, unknown_ruleset, duplicate_link, duplicate_zone, refusal}
 use Rattle.zone_source.specs.{declared.error.BuildKind.{BuildKind}, declared.error.BuildKind.TheVariants.{SurpriseContinuationLine, UnknownRuleset, DuplicateLink, DuplicateZone}, Lines.{lines_of}, Zones.{source_value}}
 
 -- a line that is no text, one with a fault, and one that may not follow those before it

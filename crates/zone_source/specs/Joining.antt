@@ -1,7 +1,6 @@
 -- How a source line joins those before it, where a builder stands for these.
 use Rattle.std.specs.Prelude.{◌≡◌, ℕ, List, [], ◌∷◌, ◌++◌, true, None}
-use Rattle.zone_values.specs.{Bounds.{is_bounded_line}, Values.{LineValue}}
-use Rattle.zone_table.specs.Built.{Built, StandsFor}
+use Rattle.zone_table.specs.{LineBounds.{is_bounded_line}, Values.{LineValue}, Built.{Built, StandsFor}}
 use Rattle.zone_source.specs.{Faults.{line_refusal}, Told.{TellsOfSource}, Zones.{source_value}, declared.error.SourceError.{SourceError}}
 
 -- whatever values the builder stood for, the nth line is not refused after them, and it now stands for them and the line's value

@@ -1,6 +1,6 @@
 -- The fault that an error tells; want of memory tells none.
 use Rattle.std.specs.Prelude.{◌≡◌, Option, Some, None, MatchOption, option_map}
-use Rattle.zone_values.specs.Faults.{fault_of}
+use Rattle.zone_table.specs.Faults.{fault_of}
 use Rattle.zone_source.specs.{Faults.{SourceFault, not_text, bad_line, bad_join}, declared.error.SourceError.{SourceError}}
 use Rattle.zone_source.specs.declared.error.SourceError.TheVariants as error
 

@@ -2,8 +2,7 @@
 use Rattle.std.specs.{Prelude.{ℕ, List, map, reverse, Option, if◌then◌else◌}, Result.{result_unwrap_or}, Str.{is_utf8}}
 use Rattle.basics.specs.Listed.{listed}
 use Rattle.zone_line.specs.LineValues.{value}
-use Rattle.zone_values.specs.Values.{LineValue, space}
-use Rattle.zone_table.specs.{Joined.{rules_of}, Resolved.{resolved}, declared.rule.RuleInfo.{RuleInfo}, declared.zone.ZoneInfo.{ZoneInfo}}
+use Rattle.zone_table.specs.{Values.{LineValue, space}, Joined.{rules_of}, Resolved.{resolved}, declared.rule.RuleInfo.{RuleInfo}, declared.zone.ZoneInfo.{ZoneInfo}}
 use Rattle.zone_source.specs.Lines.{lines_of}
 
 -- what a source line says; one that is no text or has a fault says nothing

@@ -63,8 +63,7 @@ fn write_text<W: fmt::Write>(f: &mut fmt::Formatter<W>, text: &FaultText) -> fmt
 
 impl SourceError {
     ghost use Rattle.std.specs.Prelude.{◌≡◌, MatchOption, Some};
-    ghost use Rattle.zone_values.specs.Faults.{fault_of};
-    ghost use Rattle.zone_table.specs.Built.{refusal_of};
+    ghost use Rattle.zone_table.specs.{Faults.{fault_of}, Built.{refusal_of}};
     ghost use Rattle.zone_source.specs.{Faults.{bad_line, bad_join, kind_of}, Told.{told_by_source}, declared.error.SourceError.TheVariants.{NoMemory}};
 
     /// The refusal of the nth line, or want of memory.

@@ -1,6 +1,6 @@
 //! The line that tells a fault.
 ghost use Rattle.std.specs.Prelude.{◌≡◌, ◌≤◌, [], ◌∷◌, ◌++◌, length, take, IsSome, IfSome};
-ghost use Rattle.zone_values.specs.Faults.{fault_of, fault_name};
+ghost use Rattle.zone_table.specs.Faults.{fault_of, fault_name};
 ghost use Rattle.zone_source.specs.FaultLines.{build_name, line_shown, IsShort};
 
 use crate::error::{BuildKind, SourceError};
@@ -23,7 +23,7 @@ pub struct FaultText {
 
 impl FaultText {
     ghost use Rattle.std.specs.Prelude.{◌≡◌, ◌≤◌, [], length, codes, IsSome, IfSome, IsSomeAnd, None, MatchOption};
-    ghost use Rattle.zone_values.specs.Faults.{fault_of};
+    ghost use Rattle.zone_table.specs.Faults.{fault_of};
     ghost use Rattle.zone_source.specs.{FaultLines.{bad_line_text, bad_join_text, IsShort, line_shown, line_with, source_line}, Told.{told_by_source}};
 
     /// Of the fault that a source is refused for; none for want of memory.

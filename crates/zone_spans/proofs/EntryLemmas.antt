@@ -4,7 +4,7 @@ use Rattle.std.proofs.lemmas.{Grind.{common_steps}, List.{append_assoc, append-n
 use Rattle.std.proofs.lemmas.List.Sums.{AllPass-from_list_all, list_all-from_AllPass}
 use Rattle.std.specs.{List.{list_all, position_or_len}, Option.{option_or}}
 use Rattle.basics.specs.Sorted.{put_in, stable_sort}
-use Rattle.zone_values.specs.Bounds.{are_small_seconds}
+use Rattle.zone_table.specs.LineBounds.{are_small_seconds}
 use Rattle.zone_spans.specs.Bounds.{is_bounded_entry, is_bounded_firing, is_bounded_line, is_bounded_span, is_small, is_start}
 use Rattle.zone_spans.specs.{Entries.{Entry, at_start, entries_from_over, entries_of_over, entry_of, fixed_span, is_sooner, next_start_over, span_of, start_entry}, Firings.{Firing, line_firings_over}, Lines.{Line, fixed_saving, is_ruled}}
 use Rattle.zone_spans.specs.{Listing.{is_at, listed_firings, listed_from, start_firing}, Stands.{StandsFor}}

@@ -1,7 +1,6 @@
 -- The order of numbers, and any rule.
 use Rattle.std.proofs.{Common.{◌≡◌, Bool, true, false, cond, None, ℤ, arith, int_lt, int_cmp, is_lt, Less, Equal, Greater, pos, refl}, lemmas.Int.{ints}}
-use Rattle.zone_values.specs.declared.{day.DaySpec.TheVariants.{Ordinal}, month.Month.TheVariants.{January}, time.TimeType.TheVariants.{Wall}, year.Year.TheVariants.{Minimum}}
-use Rattle.zone_table.specs.declared.rule.RuleInfo.{RuleInfo}
+use Rattle.zone_table.specs.{declared.{day.DaySpec.TheVariants.{Ordinal}, month.Month.TheVariants.{January}, time.TimeType.TheVariants.{Wall}, year.Year.TheVariants.{Minimum}}, declared.rule.RuleInfo.{RuleInfo}}
 
 pub int_lt_one_way : (a b : ℤ) → int_lt a b ≡ true → int_lt b a ≡ false
 int_lt_one_way a b h = grind (arith, ints)

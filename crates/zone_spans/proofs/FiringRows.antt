@@ -1,10 +1,7 @@
 -- The firings of lines and what they list, at worked rows. Times are those of `date -u -d`.
 use Rattle.std.specs.Prelude.{◌≡◌, ℕ, List, [], ◌∷◌, map, Some, None, ℤ, pos, negsuc, codes, refl}
 use Rattle.basics.specs.{Days.{days_after_zero, year_start, days_through, days_into_year, day, is_leap, days_in_year, days_in_month}, Dates.{last_with}, Weekdays.{weekday_of}}
-use Rattle.zone_values.specs.{Days.{named_day, first_from}, declared.change.ChangeTime.TheVariants.{UntilYear, UntilDay, UntilTime}, declared.day.DaySpec.{DaySpec}, declared.day.DaySpec.TheVariants.{Ordinal, FirstOnOrAfter}, declared.month.Month.{Month}}
-use Rattle.zone_values.specs.declared.{month.Month.TheVariants.{January, March, July, November, December}, time.TimeSpec.TheVariants.{Zero}, time.TimeType.TheVariants.{Wall, Standard, UTC}, weekday.Weekday.TheVariants.{Sunday}}
-use Rattle.zone_values.specs.declared.year.Year.TheVariants.{Maximum, Number}
-use Rattle.zone_table.specs.{Moments.{applies_to_year, instant_of, last_year, moment}, declared.rule.RuleInfo.{RuleInfo}}
+use Rattle.zone_table.specs.{Days.{named_day, first_from}, declared.change.ChangeTime.TheVariants.{UntilYear, UntilDay, UntilTime}, declared.day.DaySpec.{DaySpec}, declared.day.DaySpec.TheVariants.{Ordinal, FirstOnOrAfter}, declared.month.Month.{Month}, declared.{month.Month.TheVariants.{January, March, July, November, December}, time.TimeSpec.TheVariants.{Zero}, time.TimeType.TheVariants.{Wall, Standard, UTC}, weekday.Weekday.TheVariants.{Sunday}}, declared.year.Year.TheVariants.{Maximum, Number}, Moments.{applies_to_year, instant_of, last_year, moment}, declared.rule.RuleInfo.{RuleInfo}}
 use Rattle.zone_spans.specs.{Firings.{Firing, earliest, fired, firings_of_years, year_firings, years_expanded, years_over}, Listing.{listed_from, start_firing}, Windows.{line_end}, Years.{latest_year}}
 
 -- a rule for good from 2007 on

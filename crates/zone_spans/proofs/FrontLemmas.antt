@@ -3,8 +3,7 @@ use Rattle.std.proofs.Common.{pos, ◌≡◌, ℕ, ◌+◌, ◌<◌, ◌≤◌, 
 use Rattle.std.proofs.lemmas.{Int.{ints}, List.{length-map}, Bool.Decides.{nat_tests}}
 use Rattle.std.specs.{Cmp.{IsStrictWeakOrder}, List.{AllByRecursion}}
 use Rattle.basics.specs.{Sorted.{stable_sort}, LogicLaws.{every_weaker}}
-use Rattle.zone_values.specs.declared.{time.TimeType.{TimeType}, time.TimeType.TheVariants.{Wall, Standard, UTC}, change.ChangeTime.{ChangeTime}}
-use Rattle.zone_table.specs.{declared.rule.RuleInfo.{RuleInfo}, Moments.{instant_of, moment}}
+use Rattle.zone_table.specs.{declared.{time.TimeType.{TimeType}, time.TimeType.TheVariants.{Wall, Standard, UTC}, change.ChangeTime.{ChangeTime}}, declared.rule.RuleInfo.{RuleInfo}, Moments.{instant_of, moment}}
 use Rattle.zone_spans.specs.{Firings.{Fired, Firing, earliest, fired, is_earlier, is_over, year_firings}, Fronts.{first_of, firing_of, fronts_of, has_mark, head_of, is_below, fires_sooner, left, next_firing, same_mark, sooner, tail_of}}
 use Rattle.zone_spans.specs.{Placed.{Placed, placed_from, time_of}, declared.front.YearRules.{YearRules}}
 use Rattle.zone_spans.proofs.{FiringLemmas.{int_lt_chain, int_lt_one_way}, Picks.{all_filter, all_sorted, pick, pick_least, pick_length, pick_others, pick_sorted}, PlacedLemmas.{IsAt, Rises, all_at, placed_most, placed_rises, placed_rules}}

@@ -4,8 +4,7 @@ use Rattle.std.proofs.{Math.Seq.{drop-append_seam, take-append_seam}, lemmas.Boo
 use Rattle.std.proofs.lemmas.List.{length-append, length-drop, reverse-reverse, take_all}
 use Rattle.std.specs.{List.{list_all}, Option.{option_map_or}}
 use Rattle.basics.specs.Sorted.{stable_sort}
-use Rattle.zone_values.specs.{Bounds.{are_small_seconds}, declared.change.ChangeTime.{ChangeTime}}
-use Rattle.zone_table.specs.declared.rule.RuleInfo.{RuleInfo}
+use Rattle.zone_table.specs.{LineBounds.{are_small_seconds}, declared.change.ChangeTime.{ChangeTime}, declared.rule.RuleInfo.{RuleInfo}}
 use Rattle.zone_spans.specs.{Bounds.{IsSound, IsSoundOver, is_bounded_entry, is_bounded_firing}, Collapse.{kept_of}, Cuts.{IsCut}, Cycle.{seconds_on}, Entries.{Entry, entry_of, is_sooner, next_start_over, raw_entries_over, sorted_entries_over}}
 use Rattle.zone_spans.specs.{Firings.{Firing, firings_of_years, years_over}, GoesOn.{are_cycle_later, dont_fall, ends_by_then, front_of, goes_on, has_settled_lines, is_cycle_later, is_in_order, kept_over, last_goes_on, last_of, some_leaves}}
 use Rattle.zone_spans.specs.{Later.{first_fired, later_fired, start_after}, LaterLaws.{ends-by, firings_of_years-split, years_over-ended}, Lines.{Line}, Settled.{are_settled}, Stands.{StandsFor}}

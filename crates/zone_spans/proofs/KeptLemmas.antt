@@ -3,8 +3,7 @@ use Rattle.std.proofs.Common.{◌≡◌, ℕ, zero, suc, ◌+◌, ◌<◌, ◌�
 use Rattle.std.proofs.{Math.Nat.{eq-or-lt_of_le}, Math.Seq.{get_or-append_seam}, lemmas.Int.{ints}, lemmas.List.{get_or-take, get_or_append_left, length-append, length-take-le, take_more}, lemmas.List.Folds.{list_all-append, list_all_more}}
 use Rattle.std.proofs.lemmas.List.Sums.{AllPass-from_list_all, list_all-from_AllPass}
 use Rattle.std.specs.{List.{AllByRecursion, last_or, list_all}, Option.{option_to_list}, Result.{OnOk}}
-use Rattle.zone_values.specs.{Bounds.{are_small_seconds}, Ends.{time_type, wall}, declared.change.ChangeTime.{ChangeTime}, declared.time.TimeType.{TimeType}, declared.time.TimeType.TheVariants.{Wall, Standard, UTC}}
-use Rattle.zone_table.specs.{Bounds.{is_bounded_rule}, Moments.{applies_to_year, instant_of, moment}, declared.rule.RuleInfo.{RuleInfo}}
+use Rattle.zone_table.specs.{LineBounds.{are_small_seconds}, Ends.{time_type, wall}, declared.change.ChangeTime.{ChangeTime}, declared.time.TimeType.{TimeType}, declared.time.TimeType.TheVariants.{Wall, Standard, UTC}, Bounds.{is_bounded_rule}, Moments.{applies_to_year, instant_of, moment}, declared.rule.RuleInfo.{RuleInfo}}
 use Rattle.zone_spans.specs.{Bounds.{IsSound, is_bounded_firing}, Fires.{AreSmall, StandFor}, Firings.{Fired, Firing, earliest, fired, firings_of_years, is_earlier, is_over, year_firings}}
 use Rattle.zone_spans.specs.{Kept.{AreBelow, AreSummaries, IsLastSummary, IsLimit, IsSummary, summed, unended}, Lines.{Line}, Quiet.{AppliesToNone}, Stands.{StandsFor}, Windows.{line_end}, declared.firing.Firings.{Firings}, declared.kept.Summary.{Summary}}
 use Rattle.zone_spans.specs.Years.{earliest_year, years_limit}

@@ -2,8 +2,7 @@
 use Rattle.std.proofs.{Common.{◌≡◌, ℕ, zero, suc, ◌+◌, ◌<◌, ◌≤◌, true, ◌&&◌, List, [], ◌∷◌, ◌++◌, length, get_or, drop, Option, None, IsTrue, refl, sym, ap, ◌∙◌, arith}, lemmas.List.{append_assoc}, lemmas.List.Elements.{All-drop}}
 use Rattle.std.proofs.lemmas.List.{Folds.{list_all-append}, Sums.{AllPass-from_list_all, list_all-from_AllPass}}
 use Rattle.std.specs.{List.{list_all}, Option.{option_map_or}}
-use Rattle.zone_values.specs.{Bounds.{are_small_seconds}, Days.{has_day_of_month}, Ends.{end_day}, declared.change.ChangeTime.{ChangeTime}}
-use Rattle.zone_table.specs.{Bounds.{is_bounded_info, is_bounded_rule, is_bounded_saving}, declared.rule.RuleInfo.{RuleInfo}, declared.zone.ZoneInfo.{ZoneInfo}}
+use Rattle.zone_table.specs.{LineBounds.{are_small_seconds}, Days.{has_day_of_month}, Ends.{end_day}, declared.change.ChangeTime.{ChangeTime}, Bounds.{is_bounded_info, is_bounded_rule, is_bounded_saving}, declared.rule.RuleInfo.{RuleInfo}, declared.zone.ZoneInfo.{ZoneInfo}}
 use Rattle.zone_spans.{specs.Bounds.{is_bounded_line}, specs.Lines.{Line, Rulesets, end_before, rules_named, zone_lines}, proofs.BoundLemmas.{both, first, second}, proofs.FoundLemmas.{from_here}}
 
 -- the last line has no end

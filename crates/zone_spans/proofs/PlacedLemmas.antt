@@ -2,8 +2,7 @@
 use Rattle.std.proofs.{Common.{◌≡◌, ℕ, suc, ◌+◌, ◌<◌, ◌≤◌, Bool, true, false, cond, List, [], ◌∷◌, ◌++◌, length, get_or, map, take, filter, ℤ, pos, int_cmp, is_lt, refl, sym, ap, ◌∙◌, arith}, lemmas.List.{append-nil, length-take-le, take_more}}
 use Rattle.std.proofs.lemmas.List.Elements.{filter-append}
 use Rattle.std.specs.List.{AllByRecursion}
-use Rattle.zone_table.specs.{Moments.{applies_to_year, moment}, declared.rule.RuleInfo.{RuleInfo}}
-use Rattle.zone_values.specs.declared.time.TimeType.TheVariants.{Wall, Standard, UTC}
+use Rattle.zone_table.specs.{Moments.{applies_to_year, moment}, declared.rule.RuleInfo.{RuleInfo}, declared.time.TimeType.TheVariants.{Wall, Standard, UTC}}
 use Rattle.zone_spans.{specs.Fronts.{by_mark, has_mark, is_below, with_placed}, specs.Placed.{Placed, placed_at, placed_from}, proofs.FiringLemmas.{less_is}}
 
 pub below_is : (a b : Placed) → is_lt (int_cmp a.local b.local) ≡ is_below a b

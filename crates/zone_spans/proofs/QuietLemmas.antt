@@ -3,8 +3,7 @@ use Rattle.std.proofs.{Common.{◌≡◌, ℕ, zero, suc, ◌+◌, ◌<◌, Bool
 use Rattle.std.proofs.lemmas.List.Folds.{list_any-append}
 use Rattle.std.specs.List.{list_any}
 use Rattle.basics.specs.ComparisonLaws.{le_fail}
-use Rattle.zone_values.specs.{Days.{is_in_year, named_day}, declared.change.ChangeTime.{ChangeTime}, declared.year.Year.TheVariants.{Number}}
-use Rattle.zone_table.specs.{Moments.{applies_to_year, is_at_least, is_at_most, last_year}, declared.rule.RuleInfo.{RuleInfo}}
+use Rattle.zone_table.specs.{Days.{is_in_year, named_day}, declared.change.ChangeTime.{ChangeTime}, declared.year.Year.TheVariants.{Number}, Moments.{applies_to_year, is_at_least, is_at_most, last_year}, declared.rule.RuleInfo.{RuleInfo}}
 use Rattle.zone_spans.{specs.Faults.{is_outside, some_year}, specs.Firings.{fired, firings_of_years, year_firings}, specs.Quiet.{AppliesToNone}, proofs.SoundLemmas.{neither_left}, specs.Years.{earliest_year}}
 
 -- a rule does not apply before its first year

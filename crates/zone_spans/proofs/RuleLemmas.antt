@@ -4,14 +4,13 @@ use lib.Pointwise.{pointwise}
 use Rattle.basics.specs.{LogicLaws.{no_case}, ComparisonLaws.{eq_from_pass}}
 use Rattle.basics.specs.contracts.map.Text as text_type
 use Rattle.basics.specs.contracts.map.TextPartialEq.TheImpl as of_text
-use Rattle.zone_values.specs.{SameLaws.{clock_is, year_is, month_is, day_is}, declared.year.Year.{Year}}
-use Rattle.zone_values.specs.contracts.year.Year as year_type
-use Rattle.zone_values.specs.contracts.day.DaySpecPartialEq.TheImpl as of_day
-use Rattle.zone_values.specs.contracts.month.MonthPartialEq.TheImpl as of_month
-use Rattle.zone_values.specs.contracts.time.TimeTypePartialEq.TheImpl as of_clock
-use Rattle.zone_values.specs.contracts.year.YearPartialEq.TheImpl as of_year
+use Rattle.zone_table.specs.{SameLaws.{clock_is, year_is, month_is, day_is}, declared.year.Year.{Year}, declared.rule.RuleInfo.{RuleInfo}}
+use Rattle.zone_table.specs.contracts.year.Year as year_type
+use Rattle.zone_table.specs.contracts.day.DaySpecPartialEq.TheImpl as of_day
+use Rattle.zone_table.specs.contracts.month.MonthPartialEq.TheImpl as of_month
+use Rattle.zone_table.specs.contracts.time.TimeTypePartialEq.TheImpl as of_clock
+use Rattle.zone_table.specs.contracts.year.YearPartialEq.TheImpl as of_year
 use Rattle.std.specs.contracts.prelude.OptionPartialEq.TheImpl as of_option
-use Rattle.zone_table.specs.declared.rule.RuleInfo.{RuleInfo}
 use Rattle.zone_table.specs.contracts.rule.RuleInfoPartialEq.TheImpl as of_rule
 
 last_is : (a b : Option Year) → (of_option.ghosts year_type.the_row of_year.ghosts of_year.dict).eq a b ≡ true → a ≡ b

@@ -3,8 +3,7 @@ use Rattle.std.proofs.{lemmas.List.{drop_all}, Math.Bool.{or-true}}
 use Rattle.std.proofs.Common.{add-one, drop, get_or, length, slice_get, ◌≡◌, ℕ, zero, suc, ◌+◌, ◌<◌, inl, inr, Bool, true, false, not, ◌&&◌, ◌||◌, List, [], ◌∷◌, Option, Some, None, ℤ, pos, All, IsTrue, refl, sym, ap, ◌∙◌, subst, arith}
 use Rattle.std.proofs.Math.Nat.{eq-or-lt_of_le}
 use Rattle.std.specs.{List.{list_all, list_any}, Option.{option_map_or}}
-use Rattle.zone_values.specs.{Bounds.{are_small_seconds}, Days.{has_day_of_month}, Ends.{end_day, end_year, is_dated_year}, declared.change.ChangeTime.{ChangeTime}}
-use Rattle.zone_table.specs.{Bounds.{is_bounded_info, is_bounded_rule, is_bounded_saving}, Moments.{applies_to_year, has_years}, declared.rule.RuleInfo.{RuleInfo}, declared.zone.Saving.{Saving}, declared.zone.Saving.TheVariants.{NoSaving, OneOff, Multiple}}
+use Rattle.zone_table.specs.{LineBounds.{are_small_seconds}, Days.{has_day_of_month}, Ends.{end_day, end_year, is_dated_year}, declared.change.ChangeTime.{ChangeTime}, Bounds.{is_bounded_info, is_bounded_rule, is_bounded_saving}, Moments.{applies_to_year, has_years}, declared.rule.RuleInfo.{RuleInfo}, declared.zone.Saving.{Saving}, declared.zone.Saving.TheVariants.{NoSaving, OneOff, Multiple}}
 use Rattle.zone_spans.specs.{Bounds.{IsSound, can_fire, has_moment, is_bounded_line, is_end}, Faults.{ends_outside, is_outside, some_year}, Lines.{Line, fixed_saving}, Years.{earliest_year}}
 use Rattle.zone_spans.proofs.{BoundLemmas.{both, first, second}, FoundLemmas.{from_here}}
 

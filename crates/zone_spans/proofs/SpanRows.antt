@@ -1,11 +1,7 @@
 -- The entries of zones, the collapse and the faults, at worked rows.
 use Rattle.std.specs.{Prelude.{◌≡◌, ℕ, List, [], ◌∷◌, map, Option, Some, None, Result, Ok, Err, ℤ, pos, negsuc, codes, true, false, refl}, Ordering.{int_eq}}
 use Rattle.basics.specs.{Days.{days_after_zero, year_start, days_through, days_into_year, day, is_leap, days_in_year, days_in_month}, Dates.{last_with}, Weekdays.{weekday_of}}
-use Rattle.zone_values.specs.{Days.{named_day, first_from, is_in_year}, declared.change.ChangeTime.{ChangeTime}, declared.change.ChangeTime.TheVariants.{UntilYear, UntilDay, UntilTime}, declared.day.DaySpec.TheVariants.{Ordinal, LastOnOrBefore}}
-use Rattle.zone_values.specs.declared.{month.Month.TheVariants.{January, April, October, December}, time.TimeSpec.TheVariants.{Hours, Zero}, time.TimeType.TheVariants.{Wall, Standard, UTC}, weekday.Weekday.TheVariants.{Sunday}}
-use Rattle.zone_values.specs.declared.year.Year.TheVariants.{Minimum, Number}
-use Rattle.zone_table.specs.{Formats.{abbreviation, filled}, Moments.{applies_to_year, instant_of, last_year, moment}, declared.zone.Format.TheVariants.{Alternate, Constant, Placeholder}, declared.rule.RuleInfo.{RuleInfo}, declared.zone.Saving.{Saving}}
-use Rattle.zone_table.specs.declared.zone.{Saving.TheVariants.{NoSaving, OneOff, Multiple}, ZoneInfo.{ZoneInfo}}
+use Rattle.zone_table.specs.{Days.{named_day, first_from, is_in_year}, declared.change.ChangeTime.{ChangeTime}, declared.change.ChangeTime.TheVariants.{UntilYear, UntilDay, UntilTime}, declared.day.DaySpec.TheVariants.{Ordinal, LastOnOrBefore}, declared.{month.Month.TheVariants.{January, April, October, December}, time.TimeSpec.TheVariants.{Hours, Zero}, time.TimeType.TheVariants.{Wall, Standard, UTC}, weekday.Weekday.TheVariants.{Sunday}}, declared.year.Year.TheVariants.{Minimum, Number}, Formats.{abbreviation, filled}, Moments.{applies_to_year, instant_of, last_year, moment}, declared.zone.Format.TheVariants.{Alternate, Constant, Placeholder}, declared.rule.RuleInfo.{RuleInfo}, declared.zone.Saving.{Saving}, declared.zone.{Saving.TheVariants.{NoSaving, OneOff, Multiple}, ZoneInfo.{ZoneInfo}}}
 use Rattle.zone_spans.specs.declared.{fault.SpanFault.{SpanFault}, fault.SpanFault.TheVariants.{UnknownRuleset, MissingUntil, YearRange, RuleYears, DayRange, NoStandardSpan, NoMemory}, span.FixedTimespan.{FixedTimespan}}
 use Rattle.zone_spans.specs.{declared.span.FixedTimespanSet.{FixedTimespanSet}, Bounds.{is_bounded, is_small}, Collapse.{collapsed, kept_of, kept_with, without_first}, Compiled.{compiled, compiled_over, set_of_lines, set_of_lines_over}}
 use Rattle.zone_spans.specs.{Entries.{Entry, entries_from_over, entries_of_over, first_span, next_start_over, sorted_entries_over}, FaultNames.{fault_name}, Faults.{is_outside, leaves_year_over, schedule_fault, schedule_fault_over, some_year}}

@@ -1,7 +1,6 @@
 -- One year more.
 use Rattle.std.proofs.Common.{◌≡◌, ℕ, ◌+◌, List, ◌++◌, Option, ℤ, pos, sym, ap, ◌∙◌, subst, add-one}
-use Rattle.zone_values.specs.declared.change.ChangeTime.{ChangeTime}
-use Rattle.zone_table.specs.declared.rule.RuleInfo.{RuleInfo}
+use Rattle.zone_table.specs.{declared.change.ChangeTime.{ChangeTime}, declared.rule.RuleInfo.{RuleInfo}}
 use Rattle.zone_spans.{specs.Firings.{Firing, year_firings, firings_of_years}, specs.Stands.{StandsFor}, proofs.ListingLemmas.{stands_more}, specs.Years.{earliest_year}}
 
 pub next_year : (offset : ℤ) (end : Option ChangeTime) (rules : List RuleInfo) (n : ℕ) (year saving : ℤ)

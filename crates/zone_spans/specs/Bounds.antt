@@ -1,7 +1,6 @@
 -- Sizes under which sums of times and offsets fit, and what a line has to be to be expanded.
 use Rattle.std.specs.{Prelude.{◌≡◌, ℕ, ℤ, pos, neg_ℤ, ◌≤ℤ◌, int_le, Bool, true, false, not, ◌&&◌, IsTrue, Option, Some, None}, List.{list_all}, Option.{option_map_or}}
-use Rattle.zone_values.specs.{Bounds.{are_small_seconds}, Days.{named_day, is_in_year, has_day_of_month}, Ends.{end_day, is_dated}, declared.change.ChangeTime.{ChangeTime}}
-use Rattle.zone_table.specs.{Bounds.{is_bounded_info, is_bounded_rule}, Moments.{has_years}, declared.rule.RuleInfo.{RuleInfo}}
+use Rattle.zone_table.specs.{LineBounds.{are_small_seconds}, Days.{named_day, is_in_year, has_day_of_month}, Ends.{end_day, is_dated}, declared.change.ChangeTime.{ChangeTime}, Bounds.{is_bounded_info, is_bounded_rule}, Moments.{has_years}, declared.rule.RuleInfo.{RuleInfo}}
 use Rattle.zone_spans.specs.{Entries.{Entry}, Faults.{ends_in_no_year, ends_outside, is_outside, lacks_years}, Firings.{Firing, years_over}, Lines.{Line}, Tested.{NoneLeaves}, declared.span.FixedTimespan.{FixedTimespan}}
 use Rattle.zone_spans.specs.declared.span.FixedTimespanSet.{FixedTimespanSet}
 

@@ -1,7 +1,6 @@
 -- The first thing that keeps a zone from having a schedule.
 use Rattle.std.specs.{Prelude.{ℕ, zero, suc, ◌+◌, ◌-◌, Bool, true, false, not, ◌&&◌, ◌||◌, if◌then◌else◌, List, [], ◌∷◌, ◌++◌, length, take, Option, Some, None, is_none, ℤ, pos}, List.{list_any, list_all}, Option.{option_map_or}}
-use Rattle.zone_values.specs.{Days.{named_day, is_in_year}, Ends.{end_year, year_number, is_dated_year, day_of_end}, declared.change.ChangeTime.{ChangeTime}}
-use Rattle.zone_table.specs.{Moments.{has_years, applies_to_year}, declared.rule.RuleInfo.{RuleInfo}, declared.zone.ZoneInfo.{ZoneInfo}}
+use Rattle.zone_table.specs.{Days.{named_day, is_in_year}, Ends.{end_year, year_number, is_dated_year, day_of_end}, declared.change.ChangeTime.{ChangeTime}, Moments.{has_years, applies_to_year}, declared.rule.RuleInfo.{RuleInfo}, declared.zone.ZoneInfo.{ZoneInfo}}
 use Rattle.zone_spans.specs.{Lines.{Line, Rulesets, is_known, is_ruled, zone_lines}, Firings.{years_over}, Entries.{raw_entries_over, is_standard}, declared.fault.SpanFault.{SpanFault}}
 use Rattle.zone_spans.specs.{declared.fault.SpanFault.TheVariants.{UnknownRuleset, MissingUntil, YearRange, RuleYears, DayRange, NoStandardSpan}, Years.{earliest_year, most_years}}
 

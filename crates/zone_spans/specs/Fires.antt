@@ -1,6 +1,6 @@
 -- What has fired, beside what is due.
 use Rattle.std.specs.{Prelude.{◌≡◌, ◌++◌, ℤ, Option, IsTrue}, List.{list_all}}
-use Rattle.zone_values.specs.Bounds.{are_small_seconds}
+use Rattle.zone_table.specs.LineBounds.{are_small_seconds}
 use Rattle.zone_spans.specs.{Bounds.{is_bounded_firing}, Firings.{Fired}, Stands.{StandsFor}, declared.firing.Firings.{Firings}}
 
 pub record Fires (firings : Firings) (due : Fired) : Type 0 where

@@ -1,7 +1,6 @@
 -- The firings of a line.
 use Rattle.std.specs.Prelude.{ℕ, zero, suc, ◌+◌, ◌-◌, min, nat_abs, Bool, false, List, [], ◌∷◌, ◌++◌, length, filter, Option, Some, None, ℤ, pos, int_lt, int_le, if◌then◌else◌}
-use Rattle.zone_values.specs.{Ends.{end_year, year_number}, declared.change.ChangeTime.{ChangeTime}}
-use Rattle.zone_table.specs.{Moments.{moment, applies_to_year}, declared.rule.RuleInfo.{RuleInfo}}
+use Rattle.zone_table.specs.{Ends.{end_year, year_number}, declared.change.ChangeTime.{ChangeTime}, Moments.{moment, applies_to_year}, declared.rule.RuleInfo.{RuleInfo}}
 use Rattle.zone_spans.specs.{Lines.{Line, is_ruled, fixed_saving}, Windows.{line_end}, Years.{earliest_year, most_years}}
 
 pub record Firing : Type 0 where

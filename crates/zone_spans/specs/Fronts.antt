@@ -1,7 +1,7 @@
 -- Rules in three fronts, one for each mark, each in order of local second, and where those tie of place.
 use Rattle.std.specs.Prelude.{Bool, true, false, not, ◌&&◌, ◌||◌, List, [], ◌∷◌, ◌++◌, filter, cond, Option, Some, None, ℤ, int_lt, nat_lt}
 use Rattle.basics.specs.Sorted.{stable_sort}
-use Rattle.zone_values.specs.declared.{time.TimeType.{TimeType}, time.TimeType.TheVariants.{Wall, Standard, UTC}, change.ChangeTime.{ChangeTime}}
+use Rattle.zone_table.specs.declared.{time.TimeType.{TimeType}, time.TimeType.TheVariants.{Wall, Standard, UTC}, change.ChangeTime.{ChangeTime}}
 use Rattle.zone_spans.specs.{Firings.{Firing, is_over}, Placed.{Placed, time_of}, declared.front.YearRules.{YearRules}}
 
 abbrev pub same_mark : TimeType → TimeType → Bool

@@ -1,8 +1,7 @@
 -- A zone goes on for ever where its rules do: what is tested of its lines, over one cycle of 400 years from 2100 on.
 use Rattle.std.specs.{Prelude.{◌≡◌, ℕ, nat_lt, nat_abs, Bool, true, false, not, ◌&&◌, ◌||◌, List, [], ◌∷◌, ◌++◌, find, Option, Some, None, option_map, Result, Ok, Err, is_some, is_none, ℤ, pos, int_lt}, List.{list_all, list_any}, Option.{option_map_or}}
 use Rattle.std.specs.Ordering.{int_eq}
-use Rattle.zone_values.specs.{Ends.{end_year, year_number}, declared.change.ChangeTime.{ChangeTime}}
-use Rattle.zone_table.specs.declared.{rule.RuleInfo.{RuleInfo}, zone.ZoneInfo.{ZoneInfo}}
+use Rattle.zone_table.specs.{Ends.{end_year, year_number}, declared.change.ChangeTime.{ChangeTime}, declared.{rule.RuleInfo.{RuleInfo}, zone.ZoneInfo.{ZoneInfo}}}
 use Rattle.zone_spans.specs.{Collapse.{is_no_later, is_same_span, kept_of}, Compiled.{compiled}, Entries.{Entry, is_sooner, entries_from_over, sorted_entries_over}, Faults.{is_outside, some_year}, Lines.{Line, Rulesets, is_ruled, zone_lines}}
 use Rattle.zone_spans.specs.{Cycle.{seconds_on}, Later.{first_fired, later_entries, start_after}, Settled.{are_settled, is_lasting}, declared.fault.SpanFault.{SpanFault}, declared.fault.SpanFault.TheVariants.{NoMemory}}
 

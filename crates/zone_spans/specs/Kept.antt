@@ -1,7 +1,6 @@
 -- Summaries that are kept from line to line: of the first years of a ruleset under an offset, cut by no end.
 use Rattle.std.specs.{Prelude.{◌≡◌, ℕ, suc, ◌+◌, ◌<◌, ◌≤◌, false, List, length, Option, None, ℤ, pos, int_le, int_lt, IsTrue, slice_index_or}, List.{last_or, list_all}, Option.{option_to_list}}
-use Rattle.zone_values.specs.{Bounds.{are_small_seconds}, declared.change.ChangeTime.{ChangeTime}}
-use Rattle.zone_table.specs.declared.rule.RuleInfo.{RuleInfo}
+use Rattle.zone_table.specs.{LineBounds.{are_small_seconds}, declared.change.ChangeTime.{ChangeTime}, declared.rule.RuleInfo.{RuleInfo}}
 use Rattle.zone_spans.specs.{Bounds.{is_bounded_firing}, Firings.{Fired, firings_of_years, is_over}, Quiet.{AppliesToNone}, declared.kept.Summary.{Summary}, Years.{years_limit}}
 
 -- of the first n years, cut by no end

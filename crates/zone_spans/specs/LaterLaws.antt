@@ -1,7 +1,6 @@
 -- More years: of a line that ends in 2099 or before nothing, of one with no end those years after the first.
 use Rattle.std.proofs.{Common.{◌≡◌, ℕ, zero, suc, ◌+◌, ◌-◌, ◌≤◌, min, nat_abs, nat_lt, true, ◌++◌, List, Option, Some, None, ℤ, pos, sym, ap, ◌∙◌, append-nil, append_assoc, arith}, lemmas.Bool.Decides.{nat_tests}}
-use Rattle.zone_values.specs.{Ends.{end_year, year_number}, declared.change.ChangeTime.{ChangeTime}}
-use Rattle.zone_table.specs.declared.rule.RuleInfo.{RuleInfo}
+use Rattle.zone_table.specs.{Ends.{end_year, year_number}, declared.change.ChangeTime.{ChangeTime}, declared.rule.RuleInfo.{RuleInfo}}
 use Rattle.zone_spans.specs.{Firings.{firings_of_years, year_firings, years_over}, GoesOn.{ends_by_then}, Later.{firings_from}, Years.{earliest_year}}
 
 abbrev pub EndsByThen : Option ChangeTime → Type 0

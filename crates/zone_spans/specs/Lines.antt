@@ -1,7 +1,6 @@
 -- The lines of a zone, each with what a schedule takes from it.
 use Rattle.std.specs.Prelude.{ℕ, ℤ, pos, Bool, true, false, List, [], ◌∷◌, Option, None, is_some, unwrap_or}
-use Rattle.zone_values.specs.declared.change.ChangeTime.{ChangeTime}
-use Rattle.zone_table.specs.declared.{rule.RuleInfo.{RuleInfo}, zone.Saving.{Saving}, zone.Saving.TheVariants.{NoSaving, OneOff, Multiple}, zone.ZoneInfo.{ZoneInfo}}
+use Rattle.zone_table.specs.{declared.change.ChangeTime.{ChangeTime}, declared.{rule.RuleInfo.{RuleInfo}, zone.Saving.{Saving}, zone.Saving.TheVariants.{NoSaving, OneOff, Multiple}, zone.ZoneInfo.{ZoneInfo}}}
 
 -- what is found by a ruleset's name
 abbrev pub Rulesets : Type 0

@@ -1,7 +1,6 @@
 -- Rules that apply to a year, each with its place among all.
 use Rattle.std.specs.Prelude.{IsTrue, ◌≤ℤ◌, pos, neg_ℤ, ℕ, suc, List, [], ◌∷◌, cond, ℤ}
-use Rattle.zone_table.specs.{declared.rule.RuleInfo.{RuleInfo}, Moments.{applies_to_year, instant_of, moment}}
-use Rattle.zone_values.specs.Bounds.{are_small_seconds}
+use Rattle.zone_table.specs.{declared.rule.RuleInfo.{RuleInfo}, Moments.{applies_to_year, instant_of, moment}, LineBounds.{are_small_seconds}}
 
 -- a rule, its place among all, and its local second in the year
 pub record Placed : Type 0 where

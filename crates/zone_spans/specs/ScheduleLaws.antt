@@ -1,6 +1,6 @@
 -- The total in force is one of the schedule's.
 use Rattle.std.{specs.Prelude.{◌≡◌, Bool, true, false, cond, List, [], ◌∷◌, filter, ℤ, pos, ◌*ℤ◌, int_le}, specs.List.{list_all}, proofs.lemmas.Bool.{and_parts}}
-use Rattle.civil_base.specs.Ranges.{is_offset}
+use Rattle.basics.specs.Offsets.{is_offset}
 use Rattle.zone_spans.specs.Schedules.{Schedule, last_total, total_at, is_in_offset_range}
 
 last_is_offset : (test : ℤ × ℤ → Bool) (first : ℤ) (shifts : List (ℤ × ℤ)) → is_offset first ≡ true

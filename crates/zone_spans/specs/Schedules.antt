@@ -1,6 +1,6 @@
 -- The schedule of a zone, and the offset that it has in force.
 use Rattle.std.specs.{Prelude.{ℕ, zero, suc, Bool, ◌&&◌, List, [], ◌∷◌, map, filter, Result, Ok, Err, ℤ, pos, ◌-ℤ◌, ◌*ℤ◌, int_le}, List.{list_all}, Ordering.{int_eq}}
-use Rattle.civil_base.specs.{Instants.{instant_at}, Ranges.{greatest_offset, is_offset}}
+use Rattle.basics.specs.Offsets.{greatest_offset, instant_at, is_offset}
 use Rattle.zone_table.specs.declared.zone.ZoneInfo.{ZoneInfo}
 use Rattle.zone_spans.specs.{Compiled.{compiled, compiled_over}, Entries.{total}, Lines.{Rulesets}, declared.fault.SpanFault.{SpanFault}, declared.span.FixedTimespanSet.{FixedTimespanSet}}
 

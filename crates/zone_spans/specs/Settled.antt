@@ -1,7 +1,6 @@
 -- Rules of which none begins or ends after 2099.
 use Rattle.std.specs.{Prelude.{◌≡◌, Bool, true, false, ◌&&◌, List, [], ◌∷◌, filter, pos, int_le}, List.{list_all}}
-use Rattle.zone_values.specs.declared.{time.TimeType.{TimeType}, year.Year.{Year}, year.Year.TheVariants.{Minimum, Maximum, Number}}
-use Rattle.zone_table.specs.{Moments.{is_at_most, last_year}, declared.rule.RuleInfo.{RuleInfo}}
+use Rattle.zone_table.specs.{declared.{time.TimeType.{TimeType}, year.Year.{Year}, year.Year.TheVariants.{Minimum, Maximum, Number}}, Moments.{is_at_most, last_year}, declared.rule.RuleInfo.{RuleInfo}}
 
 abbrev pub is_max : Year → Bool
 is_max Maximum = true

@@ -1,7 +1,6 @@
 -- When a line ends.
 use Rattle.std.specs.Prelude.{ℤ}
-use Rattle.zone_table.specs.Moments.{instant_of}
-use Rattle.zone_values.specs.{Ends.{time_type, wall}, declared.change.ChangeTime.{ChangeTime}}
+use Rattle.zone_table.specs.{Moments.{instant_of}, Ends.{time_type, wall}, declared.change.ChangeTime.{ChangeTime}}
 
 -- the instant of an end under an offset and a saving, by the clock of its time
 unfoldable pub line_end : ChangeTime → ℤ → ℤ → ℤ

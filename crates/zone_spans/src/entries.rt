@@ -1,8 +1,7 @@
 //! The entries of a zone, and those that a line lists.
 ghost use Rattle.std.specs.{Prelude.{◌≡◌, ◌≤◌, ◌++◌, List, All, IfOk, IfSome, IsTrue, Some, pos, filter, find, int_lt, length, map, None, option_map, take, reverse}, List.{list_all, position_or_len}, Option.{option_map_or, option_copied}, Ordering.{int_eq}};
 ghost use Rattle.basics.specs.Sorted.{stable_sort};
-ghost use Rattle.zone_values.specs.Bounds.{are_small_seconds};
-ghost use Rattle.zone_table.specs.Formats.{abbreviation};
+ghost use Rattle.zone_table.specs.{LineBounds.{are_small_seconds}, Formats.{abbreviation}};
 ghost use Rattle.zone_spans.specs.Bounds.{IsSoundOver, is_bounded_entry, is_bounded_firing, is_bounded_line, is_bounded_span, is_end, is_small, is_start};
 ghost use Rattle.zone_spans.specs.{Entries.{Entry, span_of, entry_of, fixed_span, at_start, start_entry, entries_of_over, next_start_over, raw_entries_over, is_sooner, sorted_entries_over, is_standard, first_span}, KeptFor.{IsKept}, Several.{AreAll}};
 ghost use Rattle.zone_spans.specs.{Windows.{line_end}, Listing.{is_at, listed_firings, listed_from, start_firing}, Years.{years_limit}};

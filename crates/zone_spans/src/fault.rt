@@ -1,16 +1,14 @@
 //! What keeps a zone from having a schedule, and how it is tested.
 ghost use Rattle.std.specs.{Prelude.{◌≡◌, ◌≤◌, IfOk, IsTrue, false, is_none, ℕ, ◌+◌, ◌<◌, ◌<ℤ◌, ◌∷◌, [], pos, ◌≤ℤ◌, true}, List.{list_all, list_any}, Option.{option_map_or}};
-ghost use Rattle.zone_table.specs.{Moments.{has_years}, Bounds.{is_bounded_rule}};
+ghost use Rattle.zone_table.specs.{Moments.{has_years}, Bounds.{is_bounded_rule}, Days.{has_day_of_month}, Ends.{end_day, end_year, is_dated_year}};
 ghost use Rattle.zone_spans.specs.{Bounds.{is_bounded_line}, Faults.{all_but_last, lacks_years, line_fault, ends_in_no_year, leaves_year_over, ends_outside, is_outside, some_year}, Years.{years_limit, earliest_year}, Quiet.{AppliesToNone}, Several.{AreAll}};
 ghost use Rattle.zone_spans.specs.{Tested.{NoneLeaves}, TestedFor.{HasRulesOf, IsTested}};
-ghost use Rattle.zone_values.specs.{Days.{has_day_of_month}, Ends.{end_day, end_year, is_dated_year}};
 
 use crate::several::{Serve, Several};
 use crate::transitions::Line;
 use crate::year::{EARLIEST_YEAR, years_over};
 use std::alloc::{AllocError, Global};
-use zone_table::{RuleInfo, ZoneInfo};
-use zone_values::{ChangeTime, Year};
+use zone_table::{ChangeTime, RuleInfo, Year, ZoneInfo};
 
 /// Why a zone has no schedule. Over the whole zone the first of these that is met comes.
 #[derive(Clone, Copy, Debug, PartialEq, Eq)]

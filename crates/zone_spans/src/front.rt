@@ -1,7 +1,7 @@
 //! The rules that apply to a year, by the marks of their times, and what fires first of them.
 ghost use Rattle.std.specs.{Prelude.{◌≡◌, All, IfOk, IfSome, IsTrue, [], pos, ◌≤ℤ◌}, Option.{option_copied}};
 ghost use Rattle.basics.specs.Sorted.{stable_sort};
-ghost use Rattle.zone_values.specs.Bounds.{are_small_seconds};
+ghost use Rattle.zone_table.specs.LineBounds.{are_small_seconds};
 ghost use Rattle.zone_spans.specs.{Bounds.{can_fire, has_moment, is_bounded_firing, is_end, is_small}, Fronts.{by_mark, first_of, fires_sooner, fronts_of, head_of, in_order, is_below, left, next_firing, sooner, tail_of, with_placed}};
 ghost use Rattle.zone_spans.specs.Placed.{placed_at, placed_from, time_of};
 
@@ -10,8 +10,7 @@ use crate::year::is_over;
 use basics::Items;
 use std::alloc::{AllocError, Global};
 use std::marker::Model;
-use zone_table::{RuleInfo, instant_of};
-use zone_values::{ChangeTime, TimeType};
+use zone_table::{ChangeTime, RuleInfo, TimeType, instant_of};
 
 /// A rule that applies to a year, its place among all, and its local second in the year.
 #[derive(Drop)]

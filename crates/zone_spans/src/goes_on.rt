@@ -10,8 +10,7 @@ use crate::transitions::Line;
 use crate::turns::turns;
 use crate::year::MOST_YEARS;
 use std::alloc::{AllocError, Global};
-use zone_table::RuleInfo;
-use zone_values::{ChangeTime, Year};
+use zone_table::{ChangeTime, RuleInfo, Year};
 
 /// How many years there are from the earliest to the end of the cycle, which begins with 2100.
 pub(crate) const YEARS_THROUGH_CYCLE: u16 = 700;

@@ -1,7 +1,7 @@
 //! What the first years of a ruleset fire under an offset, cut by no end: it is the same for each line of them. Of the firings
 //! before a line's start only the last one matters, so a summary of each year takes their place.
 ghost use Rattle.std.specs.{Prelude.{◌≡◌, ◌+◌, ◌<◌, ◌≤◌, ◌≤ℤ◌, None, Some, ℤ, true, IfOk, IsTrue, length, int_le, pos}, List.{last_or, list_all}};
-ghost use Rattle.zone_values.specs.Bounds.{are_small_seconds};
+ghost use Rattle.zone_table.specs.LineBounds.{are_small_seconds};
 ghost use Rattle.zone_spans.specs.{Bounds.{IsSound, IsSoundOver, is_end}, Fires.{StandFor}, Firings.{firings_of_years, line_firings_over}, Kept.{AreBelow, AreSummaries, IsLastSummary, IsLimit}, KeptFor.{IsFor, IsKept}, Lines.{is_ruled}, Quiet.{AppliesToNone}};
 ghost use Rattle.zone_spans.specs.{Several.{AreAll}, Years.{years_limit}};
 
@@ -11,8 +11,7 @@ use crate::several::{Serve, Several};
 use crate::transitions::Line;
 use crate::year::{EARLIEST_YEAR, line_end, years_over};
 use std::alloc::{AllocError, Global};
-use zone_table::RuleInfo;
-use zone_values::ChangeTime;
+use zone_table::{ChangeTime, RuleInfo};
 
 /// What the years up to one fire, cut by no end: the saving after them, a second that none of their firings is after, and the
 /// last of their firings.

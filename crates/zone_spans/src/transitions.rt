@@ -13,8 +13,7 @@ use crate::year::MOST_YEARS;
 use basics::Items;
 use std::alloc::Global;
 use std::marker::Model;
-use zone_table::{RuleInfo, Saving, Table, ZoneInfo};
-use zone_values::ChangeTime;
+use zone_table::{ChangeTime, RuleInfo, Saving, Table, ZoneInfo};
 
 /// What has rulesets and zones by their names.
 pub trait TableTransitions {

@@ -1,14 +1,13 @@
 //! The firings of a line, year by year.
 ghost use Rattle.std.specs.{Prelude.{◌≡◌, ◌<◌, ◌≤◌, ◌-◌, ◌≤ℤ◌, pos, neg_ℤ, min, nat_abs, ℤ, IfOk, IsTrue, Option, Some}, List.{list_all}};
-ghost use Rattle.zone_values.specs.Bounds.{are_small_seconds};
+ghost use Rattle.zone_table.specs.LineBounds.{are_small_seconds};
 ghost use Rattle.zone_spans.specs.{Bounds.{IsSound, can_fire, is_end}, Fires.{AreSmall, Fires, after}, Firings.{firings_of_years, is_over, year_firings, years_over}, Stands.{StandsFor}, Windows.{line_end}, Years.{earliest_year, years_limit}};
 
 use crate::firing::Firings;
 use crate::front::YearRules;
 use crate::transitions::Line;
 use std::alloc::{AllocError, Global};
-use zone_table::instant_of;
-use zone_values::ChangeTime;
+use zone_table::{ChangeTime, instant_of};
 
 /// The first year that a line expands.
 pub const EARLIEST_YEAR: u16 = 1_800;

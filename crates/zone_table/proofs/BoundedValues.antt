@@ -3,9 +3,7 @@ use Rattle.std.proofs.{Common.{◌≡◌, ℕ, Bool, true, false, cond, List, []
 use Rattle.std.proofs.lemmas.Bool.{and_from, and_parts}
 use Rattle.std.specs.{Prelude.{IsTrue, IfSome}, List.{list_all, AllPass}}
 use Rattle.basics.specs.Listed.{listed}
-use Rattle.zone_values.specs.{Bounds.{is_bounded_line}, Values.{LineValue, space, zone, continuation, rule, link}}
-use Rattle.zone_table.proofs.OwnedBounds.{owned_info-bounded}
-use Rattle.zone_table.specs.{BoundedTables.{IsBoundedTable}, Bounds.{is_bounded_rule, is_bounded_info}, Joined.{rules_of, zone_of}, Tables.{IsTableOfLatest, IsTableOf}, declared.table.Table.{Table}}
+use Rattle.zone_table.{specs.{LineBounds.{is_bounded_line}, Values.{LineValue, space, zone, continuation, rule, link}, BoundedTables.{IsBoundedTable}, Bounds.{is_bounded_rule, is_bounded_info}, Joined.{rules_of, zone_of}, Tables.{IsTableOfLatest, IsTableOf}, declared.table.Table.{Table}}, proofs.OwnedBounds.{owned_info-bounded}}
 
 -- a list passes with an item at its end that may be left out
 more_pass : {X : Type 0} (test : X → Bool) (xs : List X) (here : Bool) (x : X)

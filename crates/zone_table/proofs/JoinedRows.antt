@@ -1,7 +1,6 @@
 -- Worked rows of what lines join to, whatever their rules and zone lines say. Each list has the latest first.
 use Rattle.std.specs.{Prelude.{◌≡◌, ℕ, List, [], ◌∷◌, map, Option, Some, None, codes, string_bytes, refl}, declared.alloc.Global.{Global}, declared.string.String.{String}}
-use Rattle.zone_values.specs.{declared.change.ChangeTime.{ChangeTime}, declared.time.TimeSpec.{TimeSpec}, Values.{SavingValue, no_saving, multiple, InfoValue, RuleValue, space, zone, continuation, rule, link}}
-use Rattle.zone_table.specs.{Built.{refusal_of}, Joined.{rules_of, zone_of, owner}, Owned.{owned_rule, owned_info}, Refusals.{surprise_continuation_line, unknown_ruleset, duplicate_link, duplicate_zone, refusal, Accepted}, Resolved.{resolved}}
+use Rattle.zone_table.specs.{declared.change.ChangeTime.{ChangeTime}, declared.time.TimeSpec.{TimeSpec}, Values.{SavingValue, no_saving, multiple, InfoValue, RuleValue, space, zone, continuation, rule, link}, Built.{refusal_of}, Joined.{rules_of, zone_of, owner}, Owned.{owned_rule, owned_info}, Refusals.{surprise_continuation_line, unknown_ruleset, duplicate_link, duplicate_zone, refusal, Accepted}, Resolved.{resolved}}
 use Rattle.zone_table.specs.declared.error.Error.TheVariants as error
 
 -- a zone line with that saving

@@ -1,3 +1,9 @@
+mod DayLemmas
+mod WorkedBounds
+mod WorkedDays
+mod WorkedFaults
+mod WorkedNames
+mod WorkedValues
 pub mod BoundedLemmas
 pub mod BoundedValues
 pub mod FilledLemmas

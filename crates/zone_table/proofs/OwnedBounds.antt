@@ -1,8 +1,7 @@
 -- The owned form of a line that is bounded is bounded.
 use Rattle.std.{specs.Prelude.{IsTrue, true, ◌&&◌, Option, Some, None}, specs.Option.{option_map_or}, proofs.lemmas.Bool.{and_from, and_parts}}
-use Rattle.zone_values.specs.{Bounds.{are_small_seconds}, Days.{has_day_of_month}, Ends.{end_day, end_seconds}, Seconds.{seconds_of}, Values.{SavingValue, no_saving, one_off, multiple, InfoValue, RuleValue}, declared.change.ChangeTime.{ChangeTime}}
-use Rattle.zone_values.specs.Bounds as line
-use Rattle.zone_table.specs.{Bounds.{is_bounded_rule, is_bounded_saving, is_bounded_info}, Owned.{owned_rule, owned_saving, owned_info}}
+use Rattle.zone_table.specs.{LineBounds.{are_small_seconds}, Days.{has_day_of_month}, Ends.{end_day, end_seconds}, Seconds.{seconds_of}, Values.{SavingValue, no_saving, one_off, multiple, InfoValue, RuleValue}, declared.change.ChangeTime.{ChangeTime}, Bounds.{is_bounded_rule, is_bounded_saving, is_bounded_info}, Owned.{owned_rule, owned_saving, owned_info}}
+use Rattle.zone_table.specs.LineBounds as line
 
 pub owned_rule-bounded : (rule : RuleValue) → IsTrue (line.is_bounded_rule rule) → IsTrue (is_bounded_rule (owned_rule rule))
 owned_rule-bounded rule bounded = bounded

@@ -1,9 +1,6 @@
 -- The owned forms of worked lines, and the tests of their bounds.
 use Rattle.std.specs.Prelude.{◌≡◌, pos, negsuc, Some, true, false, codes, refl}
-use Rattle.zone_values.specs.declared.{change.ChangeTime.TheVariants.{UntilYear, UntilDay}, day.DaySpec.TheVariants.{Ordinal, Last, FirstOnOrAfter, LastOnOrBefore}, month.Month.TheVariants.{March}, time.TimeSpec.TheVariants.{HoursMinutes}}
-use Rattle.zone_values.specs.{declared.time.TimeType.TheVariants.{Standard}, declared.weekday.Weekday.TheVariants.{Sunday}, declared.year.Year.TheVariants.{Maximum, Number}, Values.{no_saving, one_off, multiple, InfoValue, RuleValue}}
-use Rattle.zone_table.specs.{Bounds.{is_bounded_rule, is_bounded_info}, Formats.{format_of, has_placeholder}, Owned.{owned_rule, owned_info, owned_saving}, declared.zone.Format.TheVariants.{Placeholder}, declared.rule.RuleInfo.{RuleInfo}}
-use Rattle.zone_table.specs.declared.zone.ZoneInfo.{ZoneInfo}
+use Rattle.zone_table.specs.{declared.{change.ChangeTime.TheVariants.{UntilYear, UntilDay}, day.DaySpec.TheVariants.{Ordinal, Last, FirstOnOrAfter, LastOnOrBefore}, month.Month.TheVariants.{March}, time.TimeSpec.TheVariants.{HoursMinutes}}, declared.time.TimeType.TheVariants.{Standard}, declared.weekday.Weekday.TheVariants.{Sunday}, declared.year.Year.TheVariants.{Maximum, Number}, Values.{no_saving, one_off, multiple, InfoValue, RuleValue}, Bounds.{is_bounded_rule, is_bounded_info}, Formats.{format_of, has_placeholder}, Owned.{owned_rule, owned_info, owned_saving}, declared.zone.Format.TheVariants.{Placeholder}, declared.rule.RuleInfo.{RuleInfo}, declared.zone.ZoneInfo.{ZoneInfo}}
 use Rattle.zone_table.specs.declared.zone.Saving.TheVariants as saving
 
 -- `Rule US 2007 max - Mar Sun>=8 2:00s 1:00 D`

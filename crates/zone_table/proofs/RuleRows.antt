@@ -1,9 +1,7 @@
 -- The definitions of rules on worked rows. Times are those of `date -u -d`.
 use Rattle.std.specs.Prelude.{◌≡◌, pos, negsuc, Option, Some, None, true, false, refl}
 use Rattle.basics.specs.{Days.{days_after_zero, year_start, days_through, days_into_year, day, is_leap, days_in_year, days_in_month}, Dates.{last_with}, Weekdays.{weekday_of}}
-use Rattle.zone_values.specs.{Days.{named_day, first_from}, declared.day.DaySpec.{DaySpec}, declared.day.DaySpec.TheVariants.{Ordinal, Last, FirstOnOrAfter}, declared.month.Month.{Month}, declared.month.Month.TheVariants.{January, March, April, November}}
-use Rattle.zone_values.specs.declared.{time.TimeType.{TimeType}, time.TimeType.TheVariants.{Wall, Standard, UTC}, weekday.Weekday.TheVariants.{Sunday}, year.Year.{Year}, year.Year.TheVariants.{Minimum, Maximum, Number}}
-use Rattle.zone_table.specs.{Moments.{has_years, last_year, applies_to_year, instant_of, moment}, declared.rule.RuleInfo.{RuleInfo}}
+use Rattle.zone_table.specs.{Days.{named_day, first_from}, declared.day.DaySpec.{DaySpec}, declared.day.DaySpec.TheVariants.{Ordinal, Last, FirstOnOrAfter}, declared.month.Month.{Month}, declared.month.Month.TheVariants.{January, March, April, November}, declared.{time.TimeType.{TimeType}, time.TimeType.TheVariants.{Wall, Standard, UTC}, weekday.Weekday.TheVariants.{Sunday}, year.Year.{Year}, year.Year.TheVariants.{Minimum, Maximum, Number}}, Moments.{has_years, last_year, applies_to_year, instant_of, moment}, declared.rule.RuleInfo.{RuleInfo}}
 
 -- ---- years
 

@@ -2,11 +2,9 @@
 use Rattle.std.proofs.{Common.{◌≡◌, ℕ, Bool, true, false, cond, List, [], ◌∷◌, ◌++◌, Option, Some, None, unwrap_or, reverse, refl, sym, ap, ◌∙◌, subst, is_some, Bor}, lemmas.List.{reverse-append}}
 use Rattle.std.specs.{Str.{bytes_eq}, Option.{option_or, option_map_or}, FinMap.{FinMap, get, insert}}
 use Rattle.basics.specs.{Keyed.{text_cmp}, Listed.{listed}, KeyedLaws.{appended, get-inserted}}
-use Rattle.zone_values.specs.Values.{saving_value, LineValue, zone, continuation, rule, link, InfoValue, RuleValue, SavingValue, no_saving, one_off, multiple}
-use Rattle.zone_values.specs.declared.line.Saving as code
-use Rattle.zone_values.specs.declared.line.Saving.TheVariants as code_saving
-use Rattle.zone_table.specs.{declared.rule.RuleInfo.{RuleInfo}, declared.zone.ZoneInfo.{ZoneInfo}, declared.table.Table.{Table}, Owned.{owned_rule, owned_info}, Joined.{rules_of, zone_of, owner}}
-use Rattle.zone_table.specs.{Refusals.{Refusal, duplicate_link, duplicate_zone, surprise_continuation_line, refusal, refusal_of_saving, has_zone}, Tables.{IsTableOfLatest}, Built.{Built, StandsForLatest, Joins}}
+use Rattle.zone_table.specs.{Values.{saving_value, LineValue, zone, continuation, rule, link, InfoValue, RuleValue, SavingValue, no_saving, one_off, multiple}, declared.rule.RuleInfo.{RuleInfo}, declared.zone.ZoneInfo.{ZoneInfo}, declared.table.Table.{Table}, Owned.{owned_rule, owned_info}, Joined.{rules_of, zone_of, owner}, Refusals.{Refusal, duplicate_link, duplicate_zone, surprise_continuation_line, refusal, refusal_of_saving, has_zone}, Tables.{IsTableOfLatest}, Built.{Built, StandsForLatest, Joins}}
+use Rattle.zone_table.specs.declared.line.Saving as code
+use Rattle.zone_table.specs.declared.line.Saving.TheVariants as code_saving
 
 -- one more value in the end is one more in front of the latest
 joined_latest : (inside old new : Built) (value : LineValue) → inside ≡ old

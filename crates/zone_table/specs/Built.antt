@@ -1,7 +1,6 @@
 -- What a builder is seen as, and the values that it stands for.
 use Rattle.std.specs.{Prelude.{◌≡◌, ℕ, List, [], ◌∷◌, ◌++◌, Option, Some, None, IfSome, reverse, refl, string_bytes}, Coded.{Coded, code_by, coded×, coded_list, coded_ℕ, coded_option}}
-use Rattle.zone_values.specs.Values.{LineValue}
-use Rattle.zone_table.specs.{Joined.{owner}, Refusals.{Refusal, surprise_continuation_line, unknown_ruleset, duplicate_link, duplicate_zone, refusal, Accepted}, Tables.{IsTableOfLatest}, declared.error.Error.{Error}, declared.table.Table.{Table}}
+use Rattle.zone_table.specs.{Values.{LineValue}, Joined.{owner}, Refusals.{Refusal, surprise_continuation_line, unknown_ruleset, duplicate_link, duplicate_zone, refusal, Accepted}, Tables.{IsTableOfLatest}, declared.error.Error.{Error}, declared.table.Table.{Table}}
 use Rattle.zone_table.specs.declared.error.Error.TheVariants as error
 
 -- the table so far, and the name of the zone that is open, if one is

@@ -1,8 +1,7 @@
 -- What the values of lines join to: rulesets, zones and links by their names. Each list of values has the latest first,
 -- so that the values before one are the rest of the list. Rules and zone lines are in their owned form, as a table has them.
 use Rattle.std.specs.{Prelude.{ℕ, Bool, false, List, [], ◌∷◌, ◌++◌, Option, Some, None, bytes_eq, if◌then◌else◌}, Option.{option_map_or}}
-use Rattle.zone_values.specs.Values.{LineValue, space, zone, continuation, rule, link}
-use Rattle.zone_table.specs.{Owned.{owned_rule, owned_info}, declared.rule.RuleInfo.{RuleInfo}, declared.zone.ZoneInfo.{ZoneInfo}}
+use Rattle.zone_table.specs.{Values.{LineValue, space, zone, continuation, rule, link}, Owned.{owned_rule, owned_info}, declared.rule.RuleInfo.{RuleInfo}, declared.zone.ZoneInfo.{ZoneInfo}}
 
 -- the rules of that name, in order
 abbrev pub rules_of : List LineValue → List ℕ → List RuleInfo

@@ -1,7 +1,6 @@
 -- When rules fire.
 use Rattle.std.specs.Prelude.{ℤ, pos, ◌+ℤ◌, ◌-ℤ◌, ◌*ℤ◌, int_le, Bool, true, false, ◌&&◌, Option, Some, unwrap_or}
-use Rattle.zone_values.specs.{Days.{named_day}, declared.time.TimeType.{TimeType}, declared.time.TimeType.TheVariants.{Wall, Standard, UTC}, declared.year.Year.{Year}, declared.year.Year.TheVariants.{Minimum, Maximum, Number}}
-use Rattle.zone_table.specs.declared.rule.RuleInfo.{RuleInfo}
+use Rattle.zone_table.specs.{Days.{named_day}, declared.time.TimeType.{TimeType}, declared.time.TimeType.TheVariants.{Wall, Standard, UTC}, declared.year.Year.{Year}, declared.year.Year.TheVariants.{Minimum, Maximum, Number}, declared.rule.RuleInfo.{RuleInfo}}
 
 -- the year is a number
 abbrev pub is_number : Year → Bool

@@ -1,6 +1,5 @@
 -- The owned forms of what lines say.
-use Rattle.zone_values.specs.{Seconds.{seconds_of}, Values.{SavingValue, no_saving, one_off, multiple, InfoValue, RuleValue}}
-use Rattle.zone_table.specs.{Formats.{format_of}, declared.rule.RuleInfo.{RuleInfo}, declared.zone.ZoneInfo.{ZoneInfo}}
+use Rattle.zone_table.specs.{Seconds.{seconds_of}, Values.{SavingValue, no_saving, one_off, multiple, InfoValue, RuleValue}, Formats.{format_of}, declared.rule.RuleInfo.{RuleInfo}, declared.zone.ZoneInfo.{ZoneInfo}}
 use Rattle.zone_table.specs.declared.zone.Saving as code
 use Rattle.zone_table.specs.declared.zone.Saving.TheVariants as saving
 

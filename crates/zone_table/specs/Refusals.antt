@@ -1,8 +1,7 @@
 -- Why a value may not follow the values before it, given the latest first.
 use Rattle.std.specs.{Prelude.{◌≡◌, ℕ, Bool, List, [], ◌∷◌, Option, Some, None, is_some, if◌then◌else◌}, Option.{option_or}}
 use Rattle.basics.specs.Listed.{listed}
-use Rattle.zone_values.specs.Values.{SavingValue, multiple, LineValue, zone, continuation, link}
-use Rattle.zone_table.specs.Joined.{rules_of, zone_of, link_of, owner}
+use Rattle.zone_table.specs.{Values.{SavingValue, multiple, LineValue, zone, continuation, link}, Joined.{rules_of, zone_of, link_of, owner}}
 
 pub data Refusal : Type 0 where
   surprise_continuation_line : Refusal

@@ -1,8 +1,7 @@
 -- The look-up of a zone, through one link at most.
 use Rattle.std.specs.{Prelude.{◌≡◌, ℕ, List, Option, option_and_then}, Option.{option_or}, FinMap.{get}}
 use Rattle.basics.specs.Listed.{listed}
-use Rattle.zone_values.specs.Values.{LineValue}
-use Rattle.zone_table.specs.{Joined.{zone_of, link_of}, Tables.{IsTableOfLatest}, declared.table.Table.{Table}, declared.zone.ZoneInfo.{ZoneInfo}}
+use Rattle.zone_table.specs.{Values.{LineValue}, Joined.{zone_of, link_of}, Tables.{IsTableOfLatest}, declared.table.Table.{Table}, declared.zone.ZoneInfo.{ZoneInfo}}
 
 -- the zone of that name, else the zone that the link of that name leads to, of values given the latest first
 abbrev pub resolved : List LineValue → List ℕ → Option (List ZoneInfo)

@@ -1,8 +1,7 @@
 -- The table of a list of values.
 use Rattle.std.specs.{Prelude.{◌≡◌, ℕ, List, reverse}, FinMap.{get}}
 use Rattle.basics.specs.Listed.{listed}
-use Rattle.zone_values.specs.Values.{LineValue}
-use Rattle.zone_table.specs.{Joined.{rules_of, zone_of, link_of}, declared.table.Table.{Table}}
+use Rattle.zone_table.specs.{Values.{LineValue}, Joined.{rules_of, zone_of, link_of}, declared.table.Table.{Table}}
 
 -- at each name the table has what the values give, and nothing where they give nothing; the values are given the latest first
 pub record IsTableOfLatest (table : Table) (latest : List LineValue) : Type 0 where

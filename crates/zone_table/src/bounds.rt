@@ -1,7 +1,6 @@
 //! Whether the numbers of rules and zone lines are small: day numbers from 1 to 31, seconds at most 1,000,000 in size.
 ghost use Rattle.std.specs.{Prelude.{◌≡◌}, List.{list_all}};
-ghost use Rattle.zone_values.specs.Bounds.{are_small_seconds};
-ghost use Rattle.zone_table.specs.Bounds.{is_bounded_rule, is_bounded_info};
+ghost use Rattle.zone_table.specs.{LineBounds.{are_small_seconds}, Bounds.{is_bounded_rule, is_bounded_info}};
 
 use crate::rule::RuleInfo;
 use crate::zone::{Saving, ZoneInfo};

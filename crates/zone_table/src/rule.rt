@@ -1,11 +1,13 @@
 //! Rules, and the moments at which they fire.
 ghost use Rattle.std.specs.Prelude.{◌≡◌, pos, neg_ℤ, ◌≤ℤ◌, ◌+ℤ◌, ◌*ℤ◌, IfOk, IsTrue, option_map, ◌-ℤ◌};
-ghost use Rattle.zone_values.specs.{Bounds.{are_small_seconds}, Days.{has_day_of_month, is_in_year, named_day}, Values.{rule_value}};
-ghost use Rattle.zone_table.specs.{Moments.{is_number, has_last_year, has_years, is_at_most, is_at_least, applies_to_year, moment, instant_of}, Owned.{owned_rule}};
+ghost use Rattle.zone_table.specs.{LineBounds.{are_small_seconds}, Days.{has_day_of_month, is_in_year, named_day}, Values.{rule_value}, Moments.{is_number, has_last_year, has_years, is_at_most, is_at_least, applies_to_year, moment, instant_of}, Owned.{owned_rule}};
 
+use crate::day::DaySpec;
+use crate::month::Month;
+use crate::time::TimeType;
+use crate::year::Year;
 use basics::Text;
 use std::alloc::{AllocError, Global};
-use zone_values::{DaySpec, Month, TimeType, Year};
 
 /// A rule of a ruleset.
 #[derive(Debug, Drop, PartialEq)]
@@ -34,7 +36,7 @@ impl RuleInfo {
     /// # Errors
     ///
     /// Want of memory alone.
-    pub fn from_line(alloc: Global, info: zone_values::Rule<'_>) -> Result<RuleInfo, AllocError>
+    pub fn from_line(alloc: Global, info: crate::line::Rule<'_>) -> Result<RuleInfo, AllocError>
         ensures { IfOk result (λ owned. owned ≡ owned_rule (rule_value info.entry)) }
     {
         Ok(RuleInfo {

@@ -1,18 +1,17 @@
 //! The table, and how one is built from lines.
 ghost use Rattle.std.specs.{Prelude.{◌≡◌, ◌↔◌, IsTrue, IfSome, [], List, reverse, OnOk, OnErr, IfErr}, FinMap.{get}, List.{list_all, AllPass}, Option.{option_copied}};
-ghost use Rattle.zone_values.specs.{Values.{LineValue, line_value}, Bounds.{is_bounded_line}};
-ghost use Rattle.zone_values.specs.declared.line.Line.TheVariants as kind;
+ghost use Rattle.zone_table.specs.{Values.{LineValue, line_value}, LineBounds.{is_bounded_line}, BoundedTables.{IsBoundedTable}, Bounds.{is_bounded_rule, is_bounded_info}, Resolved.{resolved, resolved_in}, Tables.{IsTableOf}, Built.{StandsFor, Joins, IsCause}, declared.error.Error.TheVariants.{NoMemory}};
+ghost use Rattle.zone_table.specs.declared.line.Line.TheVariants as kind;
 ghost use Rattle.basics.specs.Keyed.{EachPasses};
-ghost use Rattle.zone_table.specs.{BoundedTables.{IsBoundedTable}, Bounds.{is_bounded_rule, is_bounded_info}, Resolved.{resolved, resolved_in}, Tables.{IsTableOf}, Built.{StandsFor, Joins, IsCause}, declared.error.Error.TheVariants.{NoMemory}};
 
 use crate::bounds::{are_bounded_lines, are_bounded_rules};
 use crate::error::Error;
+use crate::line::{Line, Link, Rule, Saving, Zone};
 use crate::rule::RuleInfo;
 use crate::zone::ZoneInfo;
 use basics::{Items, Text, TextMap};
 use std::alloc::Global;
 use std::marker::Model;
-use zone_values::{Line, Link, Rule, Saving, Zone};
 
 /// Rulesets, zones and links by their names.
 #[derive(Drop)]
@@ -173,7 +172,7 @@ impl TableBuilder {
     /// [`Error::SurpriseContinuationLine`] where no zone is open; [`Error::NoMemory`].
     pub fn add_continuation_line(
         &mut self,
-        continuation_line: zone_values::ZoneInfo<'_>,
+        continuation_line: crate::line::ZoneInfo<'_>,
     ) -> Result<(), Error>
         ensures ok { OnOk result (Joins self.old self.new (line_value (kind.Continuation continuation_line.entry))) }
         ensures err { OnErr result (self.new ≡ self.old) }

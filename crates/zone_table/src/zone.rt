@@ -1,11 +1,10 @@
 //! The lines of zones, and their formats.
 ghost use Rattle.std.specs.Prelude.{◌≡◌, IfOk, IsTrue, option_map, string_bytes};
-ghost use Rattle.zone_values.specs.Values.{info_value, saving_value};
-ghost use Rattle.zone_table.specs.{Owned.{owned_info, owned_saving}, Formats.{format_of, has_placeholder, filled, abbreviation, is_constant, constant_text}};
+ghost use Rattle.zone_table.specs.{Values.{info_value, saving_value}, Owned.{owned_info, owned_saving}, Formats.{format_of, has_placeholder, filled, abbreviation, is_constant, constant_text}};
 
+use crate::change::ChangeTime;
 use basics::Text;
 use std::alloc::{AllocError, Global};
-use zone_values::ChangeTime;
 
 /// What is added to a zone line's offset.
 #[derive(Debug, Drop, PartialEq)]
@@ -33,13 +32,13 @@ pub struct ZoneInfo {
 
 impl Saving {
     /// The owned form of what is added to a zone line's offset.
-    fn from_line(alloc: Global, saving: zone_values::Saving<'_>) -> Result<Saving, AllocError>
+    fn from_line(alloc: Global, saving: crate::line::Saving<'_>) -> Result<Saving, AllocError>
         ensures { IfOk result (λ owned. owned ≡ owned_saving (saving_value saving.entry)) }
     {
         Ok(match saving {
-            zone_values::Saving::NoSaving => Saving::NoSaving,
-            zone_values::Saving::OneOff(amount) => Saving::OneOff(amount.as_seconds()),
-            zone_values::Saving::Multiple(name) => Saving::Multiple(Text::new(alloc, name)?),
+            crate::line::Saving::NoSaving => Saving::NoSaving,
+            crate::line::Saving::OneOff(amount) => Saving::OneOff(amount.as_seconds()),
+            crate::line::Saving::Multiple(name) => Saving::Multiple(Text::new(alloc, name)?),
         })
     }
 }
@@ -51,7 +50,7 @@ impl ZoneInfo {
     /// # Errors
     ///
     /// Want of memory alone.
-    pub fn from_line(alloc: Global, info: zone_values::ZoneInfo<'_>) -> Result<ZoneInfo, AllocError>
+    pub fn from_line(alloc: Global, info: crate::line::ZoneInfo<'_>) -> Result<ZoneInfo, AllocError>
         ensures { IfOk result (λ owned. owned ≡ owned_info (info_value info.entry)) }
     {
         Ok(ZoneInfo {

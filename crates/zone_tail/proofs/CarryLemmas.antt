@@ -7,7 +7,7 @@ use Rattle.zone_tail.specs.declared.candidate.Candidate.{Candidate, TheVariants.
 use Rattle.zone_tail.proofs.{ReadLemmas.{text_spelled, value_in_range, value_stands}, YearLemmas.{year_near}}
 use Rattle.basics.specs.ComparisonLaws.{le_pass}
 use Rattle.civil_base.specs.Instants.{seconds_of}
-use Rattle.tz_zone.specs.{Sets.{schedule_of, shifts_of}, Spans.{Shift}, declared.set.FixedTimespanSet.{FixedTimespanSet}}
+use Rattle.tz_lookup.specs.{Sets.{schedule_of, shifts_of}, Spans.{Shift}, declared.set.FixedTimespanSet.{FixedTimespanSet}}
 
 not_last : (y : ℤ) → IsNearYear y → int_eq y (pos 9999) ≡ false
 not_last y near = grind (arith, ints, near.last)

@@ -1,7 +1,7 @@
 -- The best of several walks.
 use Rattle.std.proofs.{Common.{◌≡◌, ℕ, ◌+◌, ◌<◌, ◌≤◌, List, length, ℤ, subst, ⊎_elim, arith}, lemmas.Bool.{cases_lt}}
 use Rattle.zone_spans.specs.Schedules.{Schedule}
-use Rattle.tz_zone.specs.Spans.{TimesDontFall}
+use Rattle.tz_lookup.specs.Spans.{TimesDontFall}
 use Rattle.zone_tail.{specs.Agreement.{Agrees, IsWalked}, specs.Candidates.{IsAllowed}, specs.Choices.{candidate_at, IsNoBetter, IsBest, IsChoice}, specs.declared.candidate.Candidate.{Candidate}, proofs.StepLemmas.{agrees_there, no_earlier, none_is}}
 
 module _ (candidates : List Candidate) (zone : Schedule) (last : ℤ) where

@@ -2,7 +2,7 @@
 use Rattle.std.proofs.{Common.{◌≡◌, ℕ, suc, ◌<◌, Bool, true, false, cond, List, [], ◌∷◌, ℤ, pos, ◌-ℤ◌, int_lt, inl, inr, refl, sym, ap, ◌∙◌, subst, arith}, lemmas.Int.{ints}}
 use Rattle.basics.specs.ComparisonLaws.{lt_from_pass, lt_pass}
 use Rattle.zone_spans.specs.{Entries.{Entry}, declared.span.FixedTimespan.{FixedTimespan}}
-use Rattle.tz_zone.specs.{Sets.{shifts_of, span_in}, Spans.{IsCut}, declared.set.FixedTimespanSet.{FixedTimespanSet}}
+use Rattle.tz_lookup.specs.{Sets.{shifts_of, span_in}, Spans.{IsCut}, declared.set.FixedTimespanSet.{FixedTimespanSet}}
 use Rattle.zone_tail.specs.{LastYear.{Form, steady, yearly, other, are_start_and_end, entries_between, form, form_of, span_from, standard_of, year_begin, year_end}, Shapes.{entry_in, AreRising, IsForm, IsShape}, Totals.{IsCount}}
 use Rattle.zone_tail.specs.declared.last_year.Shape.TheVariants.{Steady, Pair, Other}
 use Rattle.zone_tail.proofs.ShapeLemmas.{span_from-count}

@@ -4,7 +4,7 @@ use Rattle.std.proofs.lemmas.{Bool.{and_from, and_parts, cases_lt, lt-ltb}, Bool
 use Rattle.std.specs.Int.{int_max}
 use Rattle.basics.specs.{ComparisonLaws.{le_from_pass, le_pass, lt_from_fail, lt_from_pass, eq_from_pass, eq_pass}, SignedLaws.{natural, signed}}
 use Rattle.zone_spans.specs.Schedules.{Schedule}
-use Rattle.tz_zone.specs.{Sets.{IsAccepted, schedule_of, shifts_of}, Spans.{TimesDontFall, shift_at, total_from}, declared.set.FixedTimespanSet.{FixedTimespanSet}, SpanLaws.{total_from_cut}}
+use Rattle.tz_lookup.specs.{Sets.{IsAccepted, schedule_of, shifts_of}, Spans.{TimesDontFall, shift_at, total_from}, declared.set.FixedTimespanSet.{FixedTimespanSet}, SpanLaws.{total_from_cut}}
 use Rattle.zone_tail.specs.{Agreement.{Agrees, AgreesFrom}, Candidates.{total_by, IsAllowed, ReachesTo}, Choices.{candidate_at, IsChoice}, Found.{agrees_from, each_second, first_with, found_from, found_span, found_text, gives_totals, index_from, reaches}}
 use Rattle.zone_tail.specs.{LastYear.{form}, Tails.{beginning, candidates, end_of_last_year, names_of, IsTail}, Texts.{text_of}, declared.candidate.Candidate.{Candidate}, declared.candidate.Candidate.TheVariants.{Fixed, Ruled}}
 use Rattle.zone_tail.proofs.{SecondLemmas.{before_both}, StepLemmas.{by_instants, by_seconds}}

@@ -1,7 +1,7 @@
 -- A set's string has no line feed and no zero byte.
 use Rattle.std.{proofs.Common.{◌≡◌, ℕ, Bool, true, false, not, cond, ◌&&◌, ◌==◌, List, [], ◌++◌, Some, None, refl, ℤ}, proofs.lemmas.Bool.{and_parts}, specs.List.{list_all}, specs.Prelude.{codes}}
 use Rattle.zone_spans.specs.Entries.{total}
-use Rattle.tz_zone.specs.declared.set.FixedTimespanSet.{FixedTimespanSet}
+use Rattle.tz_lookup.specs.declared.set.FixedTimespanSet.{FixedTimespanSet}
 use Rattle.zone_tail.specs.{Choices.{candidate_at}, CleanLaws.{IsClean, both, either, number_clean, time_clean, offset_clean, saving_clean, name_clean, named_clean}, Found.{found_text, found_span, index_from}}
 use Rattle.zone_tail.specs.{LastYear.{Form, steady, yearly, other, form, standard_of}, Tails.{candidates, can_be_written, fault_of, is_name, named_or, names_of, tail_fault}}
 use Rattle.zone_tail.specs.{Texts.{change_text, clock_text, name_text, offset_text, rule_text, text_of, time_text}, declared.candidate.Candidate.{Candidate}, declared.candidate.Candidate.TheVariants.{Fixed, Ruled}, declared.outcome.TailFault.{TailFault}}

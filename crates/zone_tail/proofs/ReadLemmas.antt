@@ -4,7 +4,7 @@ use Rattle.std.proofs.lemmas.{Bool.{and_from, and_parts, leb-true}, Bool.Decides
 use Rattle.std.specs.{Prelude.{codes}, Char.{is_ascii_alphabetic, is_ascii_digit}, Fmt.{decimal}, List.{list_all}, Option.{option_map_or}}
 use Rattle.basics.specs.{NumberLaws.{digits}, ComparisonLaws.{lt_from_fail, lt_from_pass}, SignedLaws.{signed, one_sided}}
 use Rattle.civil_base.specs.Offsets.{signed_by}
-use Rattle.tz_zone.specs.declared.set.FixedTimespanSet.{FixedTimespanSet}
+use Rattle.tz_lookup.specs.declared.set.FixedTimespanSet.{FixedTimespanSet}
 use Rattle.tz_posix.specs.{InForce.{yearly_time}, Marks.{colon, comma, dot, greater, less, letter_M}, PosixZones.{fixed, ruled}, Ranges.{date_miss, first_miss, first_some, is_time, offset_miss, posix_range, rule_range, rule_time_miss}, Resolved.{resolved}}
 use Rattle.tz_posix.specs.Seconds.{east_of, offset_seconds, part, time_seconds}
 use Rattle.tz_posix.specs.Spells.{absent, date, day_times, dst, enclosed, full_form, hours, is_enclosed, letters, minus, minutes, bare, present, rule, seconds, timed, weekday, SpellsDate, SpellsMoment, SpellsName, SpellsNumber, SpellsOffset, SpellsRule, SpellsTime, Optional, Spells}

@@ -5,7 +5,7 @@ use Rattle.std.specs.List.{list_all}
 use Rattle.basics.specs.ComparisonLaws.{eq_from_pass, le_le, le_same, lt_from_fail, lt_from_pass, lt_le}
 use Rattle.civil_base.specs.{Ranges.{is_offset, IsOffset}, RangeLaws.{offset_greatest, offset_least}}
 use Rattle.zone_spans.specs.Entries.{Entry, total}
-use Rattle.tz_zone.specs.{Sets.{IsAccepted, IsSpanTime, schedule_of, shift_of, shifts_of, span_in, total_of_span}, Spans.{Shift, shift_at}, declared.set.FixedTimespanSet.{FixedTimespanSet}}
+use Rattle.tz_lookup.specs.{Sets.{IsAccepted, IsSpanTime, schedule_of, shift_of, shifts_of, span_in, total_of_span}, Spans.{Shift, shift_at}, declared.set.FixedTimespanSet.{FixedTimespanSet}}
 use Rattle.tz_posix.specs.InForce.{instant_in}
 use Rattle.zone_tail.specs.{Agreement.{Agrees}, Candidates.{IsAllowed, IsLast, IsSoundCandidate}, Changes.{changes_at}, Choices.{candidate_at, IsChoice}, LastYear.{Form, form, is_end, is_start, second_week, standard_of, year_begin, year_end}}
 use Rattle.zone_tail.specs.{Ready.{CanBeWritten, IsChosen, IsNamedBy, IsReady, IsReadyList}, Rules.{time_of}, Settled.{Settles}, Shapes.{entry_in, IsForm}}

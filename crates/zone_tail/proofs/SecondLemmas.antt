@@ -1,7 +1,7 @@
 -- Every second is that of an instant, and some second is before two others.
 use Rattle.std.proofs.{Common.{◌≡◌, ℤ, pos, ◌-ℤ◌, ◌*ℤ◌, ◌<ℤ◌, arith}, lemmas.Int.{ints, by_lt_z}}
 use Rattle.civil_base.specs.Instants.{seconds_of}
-use Rattle.tz_zone.specs.SecondLaws.{IsSecond, second_is, one_second}
+use Rattle.tz_lookup.specs.SecondLaws.{IsSecond, second_is, one_second}
 
 whole : (s : ℤ) → IsSecond (pos 1000000000 *ℤ s) s
 whole s = record { low = omega (arith, ints); high = omega (arith, ints) }

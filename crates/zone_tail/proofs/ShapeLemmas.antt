@@ -4,7 +4,7 @@ use Rattle.std.proofs.lemmas.{Int.{ints}, Bool.{cases_lt}, Bool.Decides.{nat_tes
 use Rattle.std.specs.{Prelude.{◌&&◌, ◌||◌, filter, nat_lt}, Cmp.{both_ways}, List.{list_any}}
 use Rattle.basics.specs.ComparisonLaws.{le_fail, le_pass}
 use Rattle.zone_spans.specs.{Entries.{Entry}, declared.span.FixedTimespan.{FixedTimespan}}
-use Rattle.tz_zone.specs.{Sets.{shift_of, shifts_of, span_in}, Spans.{IsCut, shift_at}, declared.set.FixedTimespanSet.{FixedTimespanSet}}
+use Rattle.tz_lookup.specs.{Sets.{shift_of, shifts_of, span_in}, Spans.{IsCut, shift_at}, declared.set.FixedTimespanSet.{FixedTimespanSet}}
 use Rattle.zone_tail.{specs.LastYear.{entries_between, last_span, span_from}, specs.Shapes.{entry_in, IsShape}, specs.Totals.{IsCount}, specs.declared.last_year.Shape.TheVariants.{Steady, Pair, Other}, proofs.SpanLemmas.{length-shifts}}
 
 inside : (l h t : ℤ) → l ≤ℤ t → t <ℤ h → int_le l t && int_lt t h ≡ true

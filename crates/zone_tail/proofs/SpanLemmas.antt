@@ -2,7 +2,7 @@
 use Rattle.std.proofs.Common.{◌≡◌, ℕ, zero, suc, ◌<◌, ◌≤◌, List, [], ◌∷◌, length, map, ℤ, ◌≤ℤ◌, refl, ap, arith}
 use Rattle.basics.specs.ComparisonLaws.{le_le, lt_le}
 use Rattle.zone_spans.specs.Entries.{Entry}
-use Rattle.tz_zone.specs.{Sets.{shift_of}, SpanLaws.{total_from_cut}, Spans.{IsCut, Shift, TimesDontFall, shift_at, total_of, total_from}}
+use Rattle.tz_lookup.specs.{Sets.{shift_of}, SpanLaws.{total_from_cut}, Spans.{IsCut, Shift, TimesDontFall, shift_at, total_of, total_from}}
 use Rattle.zone_tail.specs.Totals.{HasBegun, Lasts}
 
 pub length-shifts : (entries : List Entry) → length (map shift_of entries) ≡ length entries

@@ -3,7 +3,7 @@ use Rattle.std.proofs.{Common.{◌≡◌, ◌↔◌, ℕ, zero, suc, ◌+◌, �
 use Rattle.basics.specs.ComparisonLaws.{le_le}
 use Rattle.civil_base.specs.Instants.{seconds_of}
 use Rattle.zone_spans.specs.Schedules.{Schedule}
-use Rattle.tz_zone.specs.{SecondLaws.{total_is}, Spans.{TimesDontFall, shift_at, total_of, total_from}}
+use Rattle.tz_lookup.specs.{SecondLaws.{total_is}, Spans.{TimesDontFall, shift_at, total_of, total_from}}
 use Rattle.zone_tail.specs.{Agreement.{Agrees, AgreesIn, AgreesFrom, IsWalked}, Candidates.{candidate_total, total_by, IsAllowed, ReachesTo, IsFixed}, Totals.{HasBegun, Lasts}, declared.candidate.Candidate.{Candidate}}
 use Rattle.zone_tail.specs.declared.candidate.Candidate.TheVariants.{Fixed, Ruled}
 use Rattle.zone_tail.proofs.{SecondLemmas.{before_both, seconds_of-whole}, SpanLemmas.{total_in_span, begun_down}}

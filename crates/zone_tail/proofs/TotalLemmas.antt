@@ -2,7 +2,7 @@
 use Rattle.std.proofs.{Common.{◌≡◌, ℕ, zero, suc, ◌<◌, ◌≤◌, ◌⊎◌, Bool, true, false, cond, List, [], ◌∷◌, length, ℤ, pos, ◌-ℤ◌, ◌≤ℤ◌, ◌<ℤ◌, refl, sym, ap, ◌∙◌, subst, ⊎_elim, arith}, lemmas.Int.{ints, by_lt_z}, lemmas.Bool.{cases_lt}}
 use Rattle.basics.specs.{Days.{day, is_leap, days_in_year, days_in_month, days_after_zero, year_start, days_through, days_into_year}, ComparisonLaws.{le_le, lt_le}, SignedLaws.{signed}}
 use Rattle.zone_spans.specs.Schedules.{Schedule}
-use Rattle.tz_zone.specs.{Spans.{IsCut, Shift, TimesDontFall, shift_at, total_of, total_from}, SpanLaws.{total_from_cut}}
+use Rattle.tz_lookup.specs.{Spans.{IsCut, Shift, TimesDontFall, shift_at, total_of, total_from}, SpanLaws.{total_from_cut}}
 use Rattle.tz_posix.specs.{DayLaws.{day-2100}, InForce.{instant_in, is_within, year_at}}
 use Rattle.zone_tail.specs.{Agreement.{Agrees, AgreesFrom}, Candidates.{IsAllowed}, Choices.{candidate_at, IsChoice}, LastYear.{year_begin, year_end}, Rules.{IsNearYear, rule_total, time_of}, Totals.{HasBegun, IsCount}}
 use Rattle.zone_tail.specs.declared.{candidate.Candidate.{Candidate}, candidate.Candidate.TheVariants.{Fixed, Ruled}, rule.YearlyRule.{YearlyRule}}

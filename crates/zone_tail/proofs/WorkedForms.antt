@@ -3,7 +3,7 @@ use Rattle.std.{proofs.Common.{◌≡◌, ℕ, List, [], ◌∷◌, ◌++◌, ma
 use Rattle.basics.specs.{Dates.{last_with}, Days.{day, days_after_zero, days_before_zero, days_in_month, days_in_year, days_into_year, days_through, is_leap, year_start}, Weekdays.{weekday_of}}
 use Rattle.tz_posix.specs.{Days.{nth_weekday, rule_day}, InForce.{instant_in}, declared.date.Date.TheVariants.{M}}
 use Rattle.zone_spans.specs.{Entries.{Entry}, declared.span.FixedTimespan.{FixedTimespan}}
-use Rattle.tz_zone.specs.declared.set.FixedTimespanSet.{FixedTimespanSet}
+use Rattle.tz_lookup.specs.declared.set.FixedTimespanSet.{FixedTimespanSet}
 use Rattle.zone_tail.specs.{Candidates.{year_1800}, Found.{reaches}, LastYear.{steady, yearly, other, form, standard_of, year_begin, year_end}, Settled.{has_begun_in}, Tails.{end_of_last_year, is_ending_early, is_outlasting, tail_fault}}
 use Rattle.zone_tail.specs.declared.{candidate.Candidate.TheVariants.{Fixed, Ruled}, outcome.TailFault.TheVariants.{Shape, OffsetRange, Name}, rule.YearlyRule.{YearlyRule}}
 

@@ -2,7 +2,7 @@
 use Rattle.std.specs.Prelude.{◌≡◌, ℕ, suc, ◌+◌, ◌≤◌, length, ℤ, ◌<ℤ◌}
 use Rattle.civil_base.specs.Instants.{seconds_of}
 use Rattle.zone_spans.specs.Schedules.{Schedule, total_at}
-use Rattle.tz_zone.specs.Spans.{total_of, total_from}
+use Rattle.tz_lookup.specs.Spans.{total_of, total_from}
 use Rattle.zone_tail.specs.{Candidates.{candidate_total, total_by, IsAllowed}, Totals.{HasBegun, Lasts}, declared.candidate.Candidate.{Candidate}}
 
 -- last: the second at which the last year ends

@@ -2,8 +2,7 @@
 use Rattle.std.specs.Prelude.{ℕ, zero, suc, ◌<◌, length, ℤ, pos, ◌≤ℤ◌}
 use Rattle.civil_base.specs.Instants.{seconds_of}
 use Rattle.zone_spans.specs.Schedules.{Schedule}
-use Rattle.tz_zone.specs.Spans.{shift_at}
-use Rattle.tz_lookup.specs.YearSeconds.{rules_begin}
+use Rattle.tz_lookup.specs.{Spans.{shift_at}, YearSeconds.{rules_begin}}
 use Rattle.zone_tail.specs.{Rules.{IsSound, rule_total}, declared.candidate.Candidate.{Candidate}, declared.candidate.Candidate.TheVariants.{Fixed, Ruled}}
 
 -- the seconds east of UTC at a second

@@ -2,7 +2,7 @@
 use Rattle.std.specs.Prelude.{◌≡◌, ℕ, false, List, Option, Some, None, Ok, ℤ, ◌≤ℤ◌, ◌<ℤ◌}
 use Rattle.civil_base.specs.Instants.{seconds_of}
 use Rattle.zone_spans.specs.Schedules.{total_at}
-use Rattle.tz_zone.specs.{Sets.{schedule_of}, declared.set.FixedTimespanSet.{FixedTimespanSet}}
+use Rattle.tz_lookup.specs.{Sets.{schedule_of}, declared.set.FixedTimespanSet.{FixedTimespanSet}}
 use Rattle.tz_posix.specs.{PosixZones.{Given, Gives, PosixZone, posix_refusal}, Ranges.{posix_range}, Resolved.{resolved}, Spells.{Spells}, Values.{TzValue}}
 use Rattle.zone_tail.specs.{Settled.{IsPastChanges, IsSettled}, Tails.{end_of_last_year, is_ending_early}}
 

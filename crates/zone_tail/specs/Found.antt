@@ -2,7 +2,7 @@
 -- set; it is computed nowhere.
 use Rattle.std.specs.{Prelude.{ℕ, zero, suc, ◌+◌, Bool, true, false, ◌&&◌, nat_lt, List, length, Option, if◌then◌else◌, ℤ, pos, ◌+ℤ◌, ◌-ℤ◌, int_le, unsigned_abs}, Int.{int_max}, Ordering.{int_eq}}
 use Rattle.zone_spans.specs.Schedules.{Schedule}
-use Rattle.tz_zone.specs.{Sets.{schedule_of, shifts_of}, Spans.{shift_at, total_from}, declared.set.FixedTimespanSet.{FixedTimespanSet}}
+use Rattle.tz_lookup.specs.{Sets.{schedule_of, shifts_of}, Spans.{shift_at, total_from}, declared.set.FixedTimespanSet.{FixedTimespanSet}}
 use Rattle.zone_tail.specs.{Candidates.{total_by, year_1800}, Choices.{candidate_at}, LastYear.{form}, Tails.{beginning, candidates, end_of_last_year, names_of}, Texts.{text_of}, declared.candidate.Candidate.{Candidate}}
 use Rattle.zone_tail.specs.declared.candidate.Candidate.TheVariants.{Fixed, Ruled}
 

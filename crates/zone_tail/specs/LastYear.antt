@@ -1,8 +1,7 @@
 -- The last year of a set, 2099 by its own clocks of standard time, and the entries in it.
 use Rattle.std.specs.{Prelude.{Bool, ◌&&◌, List, [], ◌∷◌, filter, if◌then◌else◌, ℤ, pos, ◌+ℤ◌, ◌-ℤ◌, int_le, int_lt}, Ordering.{int_eq}}
 use Rattle.zone_spans.specs.{Entries.{Entry, total}, declared.span.FixedTimespan.{FixedTimespan}}
-use Rattle.tz_zone.specs.declared.set.FixedTimespanSet.{FixedTimespanSet}
-use Rattle.tz_lookup.specs.YearSeconds.{last_year_begin, rules_end}
+use Rattle.tz_lookup.specs.{declared.set.FixedTimespanSet.{FixedTimespanSet}, YearSeconds.{last_year_begin, rules_end}}
 
 -- 2099-01-01 00:00:00 and 2100-01-01 00:00:00, as seconds from 1970-01-01 00:00:00
 abbrev pub year_begin : ℤ

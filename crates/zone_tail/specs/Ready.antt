@@ -1,7 +1,7 @@
 -- What is known of the candidates of a set whose tail has no fault.
 use Rattle.std.specs.Prelude.{◌≡◌, ℕ, ◌<◌, ◌≤◌, true, IsTrue, List, length, All, ℤ}
 use Rattle.zone_spans.specs.Schedules.{Schedule}
-use Rattle.tz_zone.specs.{Sets.{schedule_of}, declared.set.FixedTimespanSet.{FixedTimespanSet}}
+use Rattle.tz_lookup.specs.{Sets.{schedule_of}, declared.set.FixedTimespanSet.{FixedTimespanSet}}
 use Rattle.zone_tail.specs.{Agreement.{Agrees}, Candidates.{IsAllowed, IsLast, IsSoundCandidate}, Choices.{candidate_at, IsChoice}, LastYear.{form}, Settled.{Settles}, Tails.{can_be_written, candidates, end_of_last_year, is_name, names_of}}
 use Rattle.zone_tail.specs.declared.candidate.Candidate.{Candidate, TheVariants.{Fixed, Ruled}}
 

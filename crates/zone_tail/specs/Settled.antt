@@ -1,7 +1,7 @@
 -- Seconds at which the rule of the last year decides by itself: it has begun, and that of the year after hasn't.
 use Rattle.std.specs.{Prelude.{◌≡◌, Bool, true, false, ◌||◌, ℤ, pos, ◌<ℤ◌, int_le}, List.{list_all}}
 use Rattle.zone_spans.specs.Entries.{Entry}
-use Rattle.tz_zone.specs.declared.set.FixedTimespanSet.{FixedTimespanSet}
+use Rattle.tz_lookup.specs.declared.set.FixedTimespanSet.{FixedTimespanSet}
 use Rattle.tz_posix.specs.{InForce.{YearlyTime, instant_in, year_at}, PosixZones.{PosixZone, ruled}}
 use Rattle.zone_tail.specs.{Rules.{time_of}, Tails.{end_of_last_year, is_ending_early}, declared.candidate.Candidate.{Candidate}, declared.candidate.Candidate.TheVariants.{Fixed, Ruled}}
 

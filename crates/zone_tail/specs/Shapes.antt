@@ -1,7 +1,7 @@
 -- What is found of the last year: how many entries lie before it and in it, and which.
 use Rattle.std.specs.Prelude.{◌≡◌, ◌≢◌, ℕ, suc, ◌<◌, ◌⊎◌, true, List, [], ◌∷◌, slice_index_or, ℤ, pos, ◌-ℤ◌, ◌<ℤ◌}
 use Rattle.zone_spans.specs.Entries.{Entry}
-use Rattle.tz_zone.specs.{Sets.{shifts_of, span_in}, declared.set.FixedTimespanSet.{FixedTimespanSet}}
+use Rattle.tz_lookup.specs.{Sets.{shifts_of, span_in}, declared.set.FixedTimespanSet.{FixedTimespanSet}}
 use Rattle.zone_tail.specs.{LastYear.{are_start_and_end, entries_between, form, standard_of, year_begin, year_end}, Totals.{IsCount}, declared.last_year.Form.{Form}, declared.last_year.Form.TheVariants.{Steady, Yearly, Other}, declared.last_year.Shape.{Shape}}
 use Rattle.zone_tail.specs.LastYear as year
 use Rattle.zone_tail.specs.declared.last_year.Shape.TheVariants as shape

@@ -1,7 +1,7 @@
 -- The POSIX TZ string that stands for the tail of a set, from which entry on, and why there is none.
 use Rattle.std.specs.{Prelude.{◌≡◌, ℕ, zero, suc, Bool, false, ◌&&◌, not, ◌==◌, nat_le, List, [], ◌∷◌, ◌++◌, length, map, Option, Some, None, if◌then◌else◌, ℤ, ◌+ℤ◌, ◌-ℤ◌, int_le, int_lt, unsigned_abs}, List.{list_all, list_any}}
 use Rattle.zone_spans.specs.Entries.{Entry, total}
-use Rattle.tz_zone.specs.{Sets.{schedule_of, shifts_of}, Spans.{Shift, shift_at}, declared.set.FixedTimespanSet.{FixedTimespanSet}}
+use Rattle.tz_lookup.specs.{Sets.{schedule_of, shifts_of}, Spans.{Shift, shift_at}, declared.set.FixedTimespanSet.{FixedTimespanSet}}
 use Rattle.tz_posix.specs.Marks.{less, greater}
 use Rattle.zone_tail.specs.{Changes.{changes_at}, Choices.{candidate_at, IsChoice}, LastYear.{Form, steady, yearly, other, form, second_week, standard_of, year_end}, Texts.{text_of}, declared.candidate.Candidate.{Candidate}}
 use Rattle.zone_tail.specs.declared.{candidate.Candidate.TheVariants.{Fixed, Ruled}, rule.Change.{Change}, rule.YearlyRule.{YearlyRule}, outcome.TailFault.{TailFault}}

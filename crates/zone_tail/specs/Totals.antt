@@ -1,6 +1,6 @@
 -- The spans of a zone at seconds, and how many of its shifts lie before one. Span 0 holds before the first shift, and shift i begins span i + 1.
 use Rattle.std.specs.Prelude.{ℕ, zero, suc, ◌<◌, ◌≤◌, List, length, ℤ, ◌≤ℤ◌, ◌<ℤ◌}
-use Rattle.tz_zone.specs.Spans.{Shift, shift_at}
+use Rattle.tz_lookup.specs.Spans.{Shift, shift_at}
 
 -- span k has begun at a second
 abbrev pub HasBegun : List Shift → ℕ → ℤ → Type 0

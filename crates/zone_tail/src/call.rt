@@ -1,6 +1,6 @@
 //! The call.
 ghost use Rattle.std.specs.Prelude.{◌≡◌, ◌≤◌, IfOk, MatchResult, None, length, string_bytes};
-ghost use Rattle.tz_zone.specs.Sets.{IsAccepted, schedule_of, shifts_of};
+ghost use Rattle.tz_lookup.specs.Sets.{IsAccepted, schedule_of, shifts_of};
 ghost use Rattle.zone_tail.specs.{LastYear.{form as form_in, standard_of}, Carried.{CarriesOn}, Ready.{IsChosen, IsReady}, Shapes.{IsForm}, Tails.{IsFaultOf, IsTail, beginning, candidates, names_of, tail_fault}};
 
 use crate::candidate::Candidate;

@@ -1,6 +1,6 @@
 //! The candidates of a set.
 ghost use Rattle.std.specs.Prelude.{◌≡◌, ◌++◌, ◌∷◌, [], OnOk, IfOk, map, None, ◌+ℤ◌, ◌≤ℤ◌, ◌<ℤ◌};
-ghost use Rattle.tz_zone.specs.Sets.{IsAccepted, schedule_of};
+ghost use Rattle.tz_lookup.specs.Sets.{IsAccepted, schedule_of};
 ghost use Rattle.zone_tail.specs.{Changes.{changes_at, changes_shown}, LastYear.{standard_of, year_begin, year_end}, Shapes.{IsForm}, Tails.{candidates, rule_with, rules_with, tail_fault}, declared.candidate.Candidate.TheVariants.{Ruled}};
 ghost use Rattle.zone_tail.specs.declared.last_year.Form.TheVariants.{Yearly};
 

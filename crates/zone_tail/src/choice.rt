@@ -1,6 +1,6 @@
 //! The candidate that stands for the tail of a set.
 ghost use Rattle.std.specs.Prelude.{ℕ, ◌<◌, All, length};
-ghost use Rattle.tz_zone.specs.Sets.{IsAccepted, schedule_of};
+ghost use Rattle.tz_lookup.specs.Sets.{IsAccepted, schedule_of};
 ghost use Rattle.zone_tail.specs.{Agreement.{Agrees, IsWalked}, Candidates.{IsAllowed, IsLast, IsSoundCandidate}, Choices.{candidate_at, IsBest, IsChoice}};
 
 use crate::candidate::Candidate;

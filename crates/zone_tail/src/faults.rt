@@ -1,6 +1,6 @@
 //! Why a set has no string.
 ghost use Rattle.std.specs.{Prelude.{◌≡◌, ◌<◌, ◌&&◌, Some, if◌then◌else◌, length}, List.{list_all}};
-ghost use Rattle.tz_zone.specs.Sets.{IsAccepted, schedule_of};
+ghost use Rattle.tz_lookup.specs.Sets.{IsAccepted, schedule_of};
 ghost use Rattle.zone_spans.specs.Entries.{total};
 ghost use Rattle.zone_tail.specs.{LastYear.{standard_of}, Shapes.{IsForm, entry_in}, Tails.{can_be_written, is_name, is_name_byte, named_or, tail_fault}, declared.outcome.TailFault.TheVariants.{OffsetRange}};
 

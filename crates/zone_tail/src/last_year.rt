@@ -1,7 +1,7 @@
 //! The last year of a set, 2099 by its own clocks of standard time.
 ghost use Rattle.std.specs.Prelude.{◌≡◌, ◌↔◌, ◌<◌, IsTrue, length, int_lt, pos, ◌+ℤ◌, ◌-ℤ◌, ◌<ℤ◌, ◌≤ℤ◌};
 ghost use Rattle.zone_spans.specs.Entries.{total};
-ghost use Rattle.tz_zone.specs.Sets.{IsAccepted, IsSpanTime, schedule_of, shifts_of};
+ghost use Rattle.tz_lookup.specs.Sets.{IsAccepted, IsSpanTime, schedule_of, shifts_of};
 ghost use Rattle.zone_tail.specs.{LastYear.{are_start_and_end, is_end, is_start, standard_of, year_begin, year_end}, Shapes.{entry_in, IsForm, IsShape}, Tails.{is_ending_early, is_outlasting}, Totals.{IsCount}, declared.last_year.Shape.TheVariants.{Pair}};
 
 use crate::spans::{entry_span, total_of};

@@ -2,7 +2,7 @@
 ghost use Rattle.std.specs.{Prelude.{◌≡◌, ◌==◌, not, ◌&&◌, true, ℕ, ℤ, List, Ok, Option, Some, None}, List.{list_all}};
 ghost use Rattle.civil_base.specs.DateTimes.{instant};
 ghost use Rattle.zone_spans.specs.Schedules.{total_at};
-ghost use Rattle.tz_zone.specs.{Sets.{IsAccepted, schedule_of}, Zones.{set_of}, declared.set.FixedTimespanSet.{FixedTimespanSet}};
+ghost use Rattle.tz_lookup.specs.{Sets.{IsAccepted, schedule_of}, Zones.{set_of}, declared.set.FixedTimespanSet.{FixedTimespanSet}};
 ghost use Rattle.tz_posix.specs.Parses.{IsParsed};
 ghost use Rattle.zone_tail.specs.{Carried.{CarriesOn, IsCovered}, Found.{found_from, found_text}, Tails.{IsTail, tail_fault}};
 

@@ -2,10 +2,9 @@
 ghost use Rattle.std.specs.Prelude.{◌≡◌, ◌<◌, ◌≤◌, length, pos, neg_ℤ, ◌≤ℤ◌};
 ghost use Rattle.civil_base.specs.Ranges.{greatest_offset};
 ghost use Rattle.zone_tail.specs.Shapes.{entry_in};
-ghost use Rattle.tz_zone.specs.Sets.{IsAccepted, schedule_of, total_of_span};
+ghost use Rattle.tz_lookup.specs.Sets.{IsAccepted, schedule_of, total_of_span};
 
-use tz_lookup::{FixedTimespan, SpanTable};
-use tz_zone::offset_of;
+use tz_lookup::{FixedTimespan, SpanTable, offset_of};
 
 /// The total of a span of a set that can be looked up, in seconds east of UTC, by the span's number from 0 on.
 pub fn total_of<S: SpanTable>(set: &S, span: usize) -> i64

@@ -1,6 +1,6 @@
 //! How far back a candidate gives the totals of a set.
 ghost use Rattle.std.specs.Prelude.{◌-◌, ◌<◌, ◌≤◌, ◌↔◌, IsTrue, length, ℤ, ◌≤ℤ◌, ◌<ℤ◌};
-ghost use Rattle.tz_zone.specs.{Sets.{IsAccepted, schedule_of, shifts_of}, Spans.{shift_at}};
+ghost use Rattle.tz_lookup.specs.{Sets.{IsAccepted, schedule_of, shifts_of}, Spans.{shift_at}};
 ghost use Rattle.zone_tail.specs.{Agreement.{AgreesIn, IsWalked}, Candidates.{IsAllowed, IsLast, IsSoundCandidate, ReachesTo}, Totals.{Lasts}};
 
 use crate::candidate::Candidate;

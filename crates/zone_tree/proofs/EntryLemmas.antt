@@ -1,6 +1,6 @@
 -- The entry of a name, by what was found of it.
 use Rattle.std.{proofs.Common.{◌≡◌, ℕ, List, cond, Err, sym, ap, ◌∙◌}, specs.Prelude.{IsTrue}}
-use Rattle.tz_zone.specs.{Compiles.{spans_of, IsCompiledAs, IsTooFar}, Sets.{schedule_of}, declared.set.FixedTimespanSet.{FixedTimespanSet}}
+use Rattle.tz_lookup.specs.{Compiles.{spans_of, IsCompiledAs, IsTooFar}, Sets.{schedule_of}, declared.set.FixedTimespanSet.{FixedTimespanSet}}
 use Rattle.zone_run.specs.Causes.{named}
 use Rattle.zone_spans.specs.Schedules.{totals_of, is_in_offset_range}
 use Rattle.zone_tree.specs.{Contents.{Found, file_unless, is_marked, zone_content}, declared.refusal.Why.TheVariants.{OffsetRange}}

@@ -2,9 +2,8 @@
 use Rattle.std.proofs.Common.{◌≡◌, ℕ, ◌+◌, ◌<◌, ◌≤◌, Bool, true, false, cond, ◌||◌, List, [], ◌∷◌, ◌++◌, map, drop, length, get_or, All, Option, Some, None, Result, Ok, Err, MatchOption, refl, sym, ap, ◌∙◌, subst, arith, append_assoc, append-nil, suc, pos}
 use Rattle.std.proofs.lemmas.List.{drop_more, drop_all, map-append, Elements.{All-nil, All-cons, All-append}}
 use Rattle.std.specs.{Prelude.{bytes_eq}, Borrow.{Bor}, FinMap.{keys}, List.{list_any}}
-use Rattle.tz_lookup.specs.Databases.{name_shown}
+use Rattle.tz_lookup.specs.{Databases.{name_shown}, Sets.{span_in}, declared.set.FixedTimespanSet.{FixedTimespanSet}}
 use Rattle.tz_ever.specs.{Opens.{IsEverFault, IsFoundForEver}, declared.open.EverFault.{EverFault}}
-use Rattle.tz_zone.specs.{Sets.{span_in}, declared.set.FixedTimespanSet.{FixedTimespanSet}}
 use Rattle.zone_source.specs.{Faults.{source_fault}, Releases.{release_of}, Told.{TellsOfSource}, Zones.{values_of}, declared.error.SourceError.{SourceError}}
 use Rattle.zone_tree.specs.{ArchiveEntries.{Content, of_file, of_link}, Contents.{has_mark, is_marked}, EverTold.{IsEverFaultOf, IsFirstEver, RefusesName, TellsWhy, made_shown}}
 use Rattle.zone_tree.specs.{EverTrees.{AreContents, Contents, HasContent, unopened, unwritten, IsEverCause, IsEverTree, OfSource, OfTree, content_in, file_why, zone_why}, Names.{finds_by_table, finds_by}, Told.{IsFirst}}

@@ -9,8 +9,7 @@ use Rattle.zone_tree.specs.declared.archive.entry.EntryFault.TheVariants as faul
 use Rattle.zone_source.specs.{Releases.{release_of}, Faults.{SourceFault, source_fault}, Zones.{values_of, zone_in}}
 use Rattle.zone_run.specs.Causes.{named}
 use Rattle.zone_spans.specs.Schedules.{totals_of, is_in_offset_range}
-use Rattle.zone_table.specs.{Joined.{zone_of, link_of}, declared.zone.ZoneInfo.{ZoneInfo}}
-use Rattle.zone_values.specs.Values.{LineValue}
+use Rattle.zone_table.specs.{Joined.{zone_of, link_of}, declared.zone.ZoneInfo.{ZoneInfo}, Values.{LineValue}}
 use Rattle.zone_tree.specs.Entries.{
   link_content,
   content_of,

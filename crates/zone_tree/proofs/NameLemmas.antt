@@ -2,12 +2,11 @@
 use Rattle.std.proofs.{Common.{◌≡◌, ℕ, Bool, true, false, List, [], ◌∷◌, ◌++◌, reverse, cond, option_map, Some, Result, refl, sym, ap, ◌∙◌, append-nil}, lemmas.Cmp.{nat_list_cmp_total}, lemmas.List.Folds.{list_any-append}, lemmas.Bool.{or_right, or_left}}
 use Rattle.std.specs.{Prelude.{◌||◌, is_some, bytes_eq}, Cmp.{both_ways}, FinMap.{FinMap, get, keys, contains_key-keys, IsAntisymmetric, slice_cmp-IsAntisymmetric, nat_cmp-IsAntisymmetric}, List.{list_any, flat_map}, Ordering.{eq_by_cmp}}
 use Rattle.basics.specs.{InOrder.{in_order}, InOrderLaws.{any-in_order, rises-keys, rises_from_sorted, same_rising, sorted_in_order}, Keyed.{text_cmp}, KeyedLaws.{tied_texts}, Listed.{listed}}
-use Rattle.tz_zone.specs.Compiles.{compiled_in}
+use Rattle.tz_lookup.specs.Compiles.{compiled_in}
 use Rattle.zone_source.specs.Zones.{rules_in, values_of, zone_in}
 use Rattle.zone_tree.specs.{ArchiveEntries.{Content}, Contents.{zone_content}, Names.{zone_names, link_names, names_by, finds_by, finds_by_table, found_in}, declared.refusal.Why.{Why}}
 use Rattle.zone_spans.specs.Compiled.{compiled}
-use Rattle.zone_table.specs.{Joined.{zone_of, link_of, is_owner}, Owned.{owned_info}, Resolved.{resolved_in-IsTableOf}, Tables.{IsTableOf}, declared.table.Table.{Table}, declared.zone.ZoneInfo.{ZoneInfo}}
-use Rattle.zone_values.specs.Values.{LineValue, space, zone, continuation, rule, link}
+use Rattle.zone_table.specs.{Joined.{zone_of, link_of, is_owner}, Owned.{owned_info}, Resolved.{resolved_in-IsTableOf}, Tables.{IsTableOf}, declared.table.Table.{Table}, declared.zone.ZoneInfo.{ZoneInfo}, Values.{LineValue, space, zone, continuation, rule, link}}
 
 pub text_same : IsAntisymmetric text_cmp
 text_same = slice_cmp-IsAntisymmetric nat_cmp-IsAntisymmetric

@@ -2,13 +2,12 @@
 use Rattle.std.proofs.{Common.{◌≡◌, ℕ, ◌+◌, ◌<◌, ◌≤◌, List, [], ◌∷◌, ◌++◌, map, length, get_or, drop, drop-cons, Option, Some, None, MatchOption, Result, Ok, Err, refl, sym, ap, ◌∙◌, subst, append_assoc, append-nil, arith}, lemmas.List.{drop_all}}
 use Rattle.std.proofs.lemmas.Grind.{flat_map-append}
 use Rattle.std.specs.{Borrow.{Bor}, List.{flat_map}}
-use Rattle.tz_lookup.specs.Databases.{name_shown}
+use Rattle.tz_lookup.specs.{Databases.{name_shown}, Compiles.{compiled_in}}
 use Rattle.zone_tree.specs.{Archives.{archive, end_bytes, entry_bytes}, ArchiveEntries.{EntryValue}, Contents.{zone_content}, Entries.{version_name, entry_of, release_entry}, Names.{Finds, finds_by, finds_in, finds_in_table, archive_names}}
 use Rattle.zone_tree.specs.{Told.{IsPut, ArePut, IsFirst, IsFaultOf}, Trees.{Refused, refused, onto, entries_of, first_entries, before, joined, archive_of, tree_by, Cause, of_source, or_cause, after_source, tree_of}, declared.refusal.TreeFault.{TreeFault}}
 use Rattle.zone_tree.specs.declared.refusal.Why.{Why}
 use Rattle.zone_tree.proofs.NameLemmas.{content_same, finds_same}
 use Rattle.zone_tree.specs.declared.refusal.TreeFault.TheVariants as tree
-use Rattle.tz_zone.specs.Compiles.{compiled_in}
 use Rattle.zone_source.specs.{Releases.{release_of}, Faults.{SourceFault, source_fault}, Told.{TellsOfSource, told_by_source}, Zones.{values_of}, declared.error.SourceError.{SourceError}}
 use Rattle.zone_source.specs.declared.error.SourceError.TheVariants as source_error
 use Rattle.zone_table.specs.{Tables.{IsTableOf}, declared.table.Table.{Table}}

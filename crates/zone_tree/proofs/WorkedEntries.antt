@@ -1,6 +1,6 @@
 -- The entry of each name, at worked rows.
 use Rattle.std.{proofs.Common.{◌≡◌, ℕ, List, [], ◌∷◌, map, replicate, codes, Bool, true, false, Some, None, Ok, Err, refl, ap, ℤ, pos, negsuc}, specs.Prelude.{bytes_eq, if◌then◌else◌, ◌||◌}}
-use Rattle.tz_zone.specs.declared.set.FixedTimespanSet.{FixedTimespanSet}
+use Rattle.tz_lookup.specs.declared.set.FixedTimespanSet.{FixedTimespanSet}
 use Rattle.zone_tree.specs.{Archives.{archive}, ArchiveEntries.{of_file, of_link, entry}, ArchiveNames.{cut, entry_fault, is_path}, Contents.{Found, has_mark, is_marked, file_or, file_unless, zone_content}}
 use Rattle.zone_tree.specs.{Entries.{link_content, is_folder, is_reserved, is_taken, said, entry_by, entry_of}, TreeShape.{are_behind}, Names.{Finds, archive_names}, Trees.{entries_of, first_entries, joined, refused, tree_by}}
 use Rattle.zone_tree.specs.declared.refusal.Why.TheVariants.{Schedule, OffsetRange, Format, File, Link, Name, Size}

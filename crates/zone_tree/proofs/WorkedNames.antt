@@ -2,7 +2,7 @@
 use Rattle.std.{proofs.Common.{◌≡◌, ℕ, List, [], ◌∷◌, map, reverse, codes, Some, None, true, false, refl}, specs.List.{flat_map}, proofs.lemmas.Cmp.{nat_list_cmp_total}}
 use Rattle.basics.specs.{InOrderLaws.{RisesStrictly, sorted_in_order, rises_from_sorted}, Keyed.{text_cmp}}
 use Rattle.zone_source.specs.Zones.{values_of}
-use Rattle.zone_values.specs.Values.{InfoValue, RuleValue, space, zone, continuation, rule, link}
+use Rattle.zone_table.specs.Values.{InfoValue, RuleValue, space, zone, continuation, rule, link}
 use Rattle.zone_tree.specs.Names.{zone_names, link_names, names_by, finds_in, given_names, archive_names}
 
 -- a zone has its name, a link its new one, and no other line has one

@@ -1,6 +1,6 @@
 -- What the zone of a name has in an archive: its file, or why there is none.
 use Rattle.std.specs.{Prelude.{ℕ, List, ◌||◌, nat_eq, Bool, true, false, Option, Some, None, Result, Ok, Err, if◌then◌else◌}, List.{list_any}}
-use Rattle.tz_zone.specs.declared.set.FixedTimespanSet.{FixedTimespanSet}
+use Rattle.tz_lookup.specs.declared.set.FixedTimespanSet.{FixedTimespanSet}
 use Rattle.zone_tree.specs.{ArchiveEntries.{Content, of_file}, declared.refusal.Why.{Why}, declared.refusal.Why.TheVariants.{Schedule, OffsetRange, Format, File, Name}}
 use Rattle.zone_run.specs.Causes.{named}
 use Rattle.zone_spans.specs.{Schedules.{totals_of, is_in_offset_range}, declared.fault.SpanFault.{SpanFault}}

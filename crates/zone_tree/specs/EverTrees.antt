@@ -1,8 +1,8 @@
 -- The archive of a table's zones for ever.
 use Rattle.std.specs.{Prelude.{◌≡◌, ℕ, List, [], ◌∷◌, map, true, false, All, Option, Some, None, Result, Ok, Err, bytes_eq, if◌then◌else◌}, FinMap.{keys}}
 use Rattle.tz_ever.specs.{Opens.{IsEverFault, IsFoundForEver}, declared.open.EverFault.{EverFault}, declared.open.EverFault.TheVariants.{LaterDay, LaterOffset, RulesEnd as Ending, Zone}}
-use Rattle.tz_zone.specs.declared.set.FixedTimespanSet.{FixedTimespanSet}
-use Rattle.tz_zone.specs.declared.compile.ZoneFault.TheVariants as zone
+use Rattle.tz_lookup.specs.declared.set.FixedTimespanSet.{FixedTimespanSet}
+use Rattle.tz_lookup.specs.declared.compile.ZoneFault.TheVariants as zone
 use Rattle.zone_tree.specs.{ArchiveEntries.{Content, of_file, of_link}, Contents.{is_marked}, Names.{finds_by_table}, Trees.{Cause, Refused, of_source, or_cause, tree_by}, declared.refusal.Why.{Why}}
 use Rattle.zone_tree.specs.declared.refusal.Why.TheVariants as why
 use Rattle.zone_source.specs.{Faults.{source_fault}, Releases.{release_of}, Zones.{values_of}}

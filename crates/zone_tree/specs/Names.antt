@@ -1,12 +1,11 @@
 -- The names that the lines of a source give to zones and links, and what they find.
 use Rattle.std.specs.{Prelude.{ℕ, Bool, not, List, [], ◌∷◌, ◌++◌, filter, reverse, is_some, Option, option_map, Result}, FinMap.{get, keys}, List.{flat_map}}
 use Rattle.basics.specs.{InOrder.{in_order}, Keyed.{text_cmp}, Listed.{listed}}
-use Rattle.tz_zone.specs.Compiles.{compiled_in}
+use Rattle.tz_lookup.specs.Compiles.{compiled_in}
 use Rattle.zone_tree.specs.{ArchiveEntries.{Content}, Contents.{Found, zone_content}, declared.refusal.Why.{Why}}
 use Rattle.zone_source.specs.Zones.{rules_in, values_of, zone_in}
 use Rattle.zone_spans.specs.Compiled.{compiled}
-use Rattle.zone_table.specs.{Joined.{zone_of, link_of}, declared.table.Table.{Table}}
-use Rattle.zone_values.specs.Values.{LineValue, zone, link}
+use Rattle.zone_table.specs.{Joined.{zone_of, link_of}, declared.table.Table.{Table}, Values.{LineValue, zone, link}}
 
 -- the name that a line gives to a zone
 abbrev pub zone_names : LineValue → List (List ℕ)

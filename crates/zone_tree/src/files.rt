@@ -1,6 +1,6 @@
 //! The files of zones.
 ghost use Rattle.std.specs.Prelude.{◌≡◌, ℕ, List, Result, Ok, IfOk, IfErr};
-ghost use Rattle.tz_zone.specs.{Compiles.{compiled_in}, Sets.{schedule_of, IsAccepted}};
+ghost use Rattle.tz_lookup.specs.{Compiles.{compiled_in}, Sets.{schedule_of, IsAccepted}};
 ghost use Rattle.zone_tree.specs.{ArchiveEntries.{Content, of_file}, Contents.{has_mark, is_marked, file_or, file_unless, zone_content}, Told.{IsWhy}, declared.refusal.Why.{Why as WhyNot}};
 ghost use Rattle.zone_table.specs.BoundedTables.{IsBoundedTable};
 ghost use Rattle.zone_tzif.specs.Files.{consistent_fault};
@@ -34,7 +34,7 @@ pub(crate) struct FilesTo2099<'t> {
 }
 
 impl<'t> ZoneFiles for FilesTo2099<'t> {
-    ghost use Rattle.tz_zone.specs.Compiles.{compiled_in};
+    ghost use Rattle.tz_lookup.specs.Compiles.{compiled_in};
     ghost use Rattle.zone_table.specs.BoundedTables.{IsBoundedTable};
     ghost use Rattle.zone_tree.specs.Contents.{zone_content};
 

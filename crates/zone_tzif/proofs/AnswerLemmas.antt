@@ -3,7 +3,7 @@ use Rattle.std.proofs.{Common.{◌≡◌, ℕ, zero, suc, ◌<◌, ◌≤◌, le
 use Rattle.basics.specs.ComparisonLaws.{le_le, lt_le}
 use Rattle.civil_base.specs.Ranges.{IsOffset}
 use Rattle.tz_tzif.specs.FooterForce.{FooterZone, fixed, yearly, held_at, is_fixed, standard_total}
-use Rattle.tz_zone.specs.{Sets.{shifts_of}, Spans.{IsCut, TimesDontFall}, declared.set.FixedTimespanSet.{FixedTimespanSet}}
+use Rattle.tz_lookup.specs.{Sets.{shifts_of}, Spans.{IsCut, TimesDontFall}, declared.set.FixedTimespanSet.{FixedTimespanSet}}
 use Rattle.zone_tzif.specs.{Agreement.{AgreesAlways, AgreesFirstFrom, AgreesForEver, AgreesNowhere, MayBegin, cycle_begin, cycle_end, time_of_entry}, Causes.{kind_in}, Walked.{Agrees, AgreesAt, IsWalked, kind_from}, declared.convert.Saves.TheVariants.{Any}, Tells.{Tells, TellsEntry}}
 use Rattle.zone_tzif.specs.declared.agreeing.Agreement.{Agreement, TheVariants.{Nowhere, From, Always}}
 use Rattle.zone_tzif.proofs.{KindLemmas.{kind_cut}, TailEverLemmas.{Repeats, for_ever, until_end}, EarliestLemmas.{earlier}, StepLemmas.{none_before}}

@@ -3,7 +3,7 @@ use Rattle.std.{proofs.Common.{◌≡◌, ℕ, zero, suc, ◌<◌, Bool, true, f
 use Rattle.basics.specs.ComparisonLaws.{le_from_pass}
 use Rattle.civil_base.specs.Instants.{seconds_of}
 use Rattle.zone_spans.specs.{Entries.{Entry}, Schedules.{total_at as set_total_at}}
-use Rattle.tz_zone.specs.{Sets.{schedule_of, shift_of, shifts_of}, Spans.{shift_at}, declared.set.FixedTimespanSet.{FixedTimespanSet}}
+use Rattle.tz_lookup.specs.{Sets.{schedule_of, shift_of, shifts_of}, Spans.{shift_at}, declared.set.FixedTimespanSet.{FixedTimespanSet}}
 use Rattle.tz_tzif.specs.{FooterForce.{FooterZone, held_at, is_of_one_year}, Spells.{SpellsFooter}, Standing.{StandsFor, stands_for}, Values.{FooterValue}, InForce.{are_over, told_total_at}}
 use Rattle.zone_tail.specs.{Candidates.{IsAllowed}, Carried.{CarriesOn, IsCovered, IsFrom}, Tails.{IsTail, beginning, end_of_last_year, is_ending_early}}
 use Rattle.zone_tzif_core.specs.{Totals.{file_total_at}, Zones.{KindValue, ZoneValue}}

@@ -3,7 +3,7 @@ use Rattle.std.proofs.Common.{◌≡◌, ◌≢◌, ℕ, zero, suc, ◌+◌, ◌
 use Rattle.std.proofs.lemmas.{Bool.Decides.{nat_tests}, Simd.{map-map}, List.{drop_more, drop_all, length-map}}
 use Rattle.std.specs.{Prelude.{bytes_eq}, List.{list_all, list_any, slice_index_or}}
 use Rattle.zone_spans.specs.Entries.{Entry}
-use Rattle.tz_zone.specs.{Sets.{shift_of, shifts_of}, Spans.{shift_at}, declared.set.FixedTimespanSet.{FixedTimespanSet}}
+use Rattle.tz_lookup.specs.{Sets.{shift_of, shifts_of}, Spans.{shift_at}, declared.set.FixedTimespanSet.{FixedTimespanSet}}
 use Rattle.zone_tzif_core.specs.{Tzif.{added, are_names, are_times, each_once, first_fault, is_same, kinds_of, name_bytes, names_of, write_fault}, Zones.{KindValue, go_up, rises}}
 use Rattle.zone_tzif_core.specs.declared.values.WriteFault.TheVariants as write
 use Rattle.zone_tzif.specs.{Causes.{kind_in, name_in, names_in}, Values.{change_by, kind_by, value_by, value_of}, declared.convert.Saves.{Saves}, declared.convert.Saves.TheVariants.{Above}}

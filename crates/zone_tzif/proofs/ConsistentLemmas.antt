@@ -2,7 +2,7 @@
 use Rattle.std.proofs.Common.{◌≡◌, ℕ, Bool, true, false, ◌||◌, cond, List, [], Option, Some, None, is_none, ℤ, ◌<ℤ◌, refl, sym, ap, ◌∙◌, subst}
 use Rattle.civil_base.specs.Instants.{seconds_of}
 use Rattle.zone_spans.specs.Schedules.{total_at as set_total_at}
-use Rattle.tz_zone.specs.{Sets.{schedule_of}, declared.set.FixedTimespanSet.{FixedTimespanSet}}
+use Rattle.tz_lookup.specs.{Sets.{schedule_of}, declared.set.FixedTimespanSet.{FixedTimespanSet}}
 use Rattle.tz_tzif.specs.{FooterLaws.{no_text}, FooterForce.{FooterZone, is_of_one_year}, Standing.{StandsFor}, Faults.{SaysInFooter}, InForce.{are_over, told_total_at}}
 use Rattle.zone_tail.specs.{Carried.{CarriesOn}, Found.{found_from, found_text}, Tails.{IsTail, end_of_last_year, is_ending_early, is_outlasting, tail_fault}, declared.outcome.TailFault.{TailFault}}
 use Rattle.zone_tzif_core.specs.{Totals.{file_total_at}, Zones.{ZoneValue}}

@@ -4,7 +4,7 @@ use Rattle.basics.specs.ComparisonLaws.{le_le}
 use Rattle.civil_base.specs.Ranges.{IsOffset}
 use Rattle.zone_spans.specs.Cycle.{seconds_on}
 use Rattle.tz_tzif.specs.FooterForce.{FooterZone, held_at, standard_total}
-use Rattle.tz_zone.specs.declared.set.FixedTimespanSet.{FixedTimespanSet}
+use Rattle.tz_lookup.specs.declared.set.FixedTimespanSet.{FixedTimespanSet}
 use Rattle.zone_tzif.{specs.Agreement.{AgreesForEver, MayBegin, cycle_begin, cycle_end, time_of_entry}, specs.Walked.{Agrees, AgreesAt, kind_from}, proofs.TailEverLemmas.{Repeats, cycle_later, until_end}}
 
 module _ (repeats : Repeats) (zone other : FooterZone) (offset : IsOffset (standard_total zone)) (other_offset : IsOffset (standard_total other))

@@ -7,7 +7,7 @@ use Rattle.civil_base.specs.Instants.{seconds_of}
 use Rattle.zone_spans.specs.Entries.{Entry}
 use Rattle.tz_ever.specs.{Seam.{next_seam}, SeamLaws.{back_is}}
 use Rattle.tz_tzif.specs.{FooterLaws.{no_text}, FooterForce.{FooterZone, held_at}, Spells.{SpellsFooter}, Standing.{stands_for}, Values.{FooterValue}, Faults.{SaysInFooter}, InForce.{are_over, changed_kind, kind_at, kind_in}}
-use Rattle.tz_zone.specs.{SecondLaws.{same_test}, Sets.{shift_of, shifts_of}, Spans.{shift_at}, declared.set.FixedTimespanSet.{FixedTimespanSet}}
+use Rattle.tz_lookup.specs.{SecondLaws.{same_test}, Sets.{shift_of, shifts_of}, Spans.{shift_at}, declared.set.FixedTimespanSet.{FixedTimespanSet}}
 use Rattle.zone_tzif.specs.{Agreement.{IsCovered, cycle_begin, ever_kind}, Tails.{IsTailForEver, beginning_of}, Tells.{Tells}, EverFiles.{entries_until, ever_zone, until, version_for, IsEverFile, IsFooterFor, IsInReach, IsNoEverFile}, Files.{IsFileFault}, Walked.{come}}
 use Rattle.zone_tzif.specs.{Values.{change_by, kind_by, value_by}, declared.convert.Saves.TheVariants.{Any}, declared.file.FileFault.{FileFault}}
 use Rattle.zone_tzif.proofs.{KindLemmas.{ever_is}, LineLemmas.{tried_clean}}

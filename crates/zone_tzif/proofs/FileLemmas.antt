@@ -4,7 +4,7 @@ use Rattle.std.proofs.lemmas.List.Folds.{list_all-append}
 use Rattle.std.specs.List.{list_all, list_any}
 use Rattle.civil_base.specs.Ranges.{is_offset}
 use Rattle.zone_spans.specs.Entries.{Entry, total}
-use Rattle.tz_zone.specs.{Sets.{IsAccepted, schedule_of, shift_of}, declared.set.FixedTimespanSet.{FixedTimespanSet}}
+use Rattle.tz_lookup.specs.{Sets.{IsAccepted, schedule_of, shift_of}, declared.set.FixedTimespanSet.{FixedTimespanSet}}
 use Rattle.zone_tail.specs.{Found.{found_text}, Tails.{tail_fault}}
 use Rattle.zone_tzif_core.specs.{Format.{is_one_line}, Tzif.{added, are_names, are_times, each_once, first_fault, is_same, kinds_of, names_of, write_fault}, Zones.{KindValue, ZoneValue, is_small}}
 use Rattle.zone_tzif_core.specs.declared.values.WriteFault.TheVariants as write

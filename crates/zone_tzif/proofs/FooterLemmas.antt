@@ -1,6 +1,6 @@
 -- The footer of a set's file.
 use Rattle.std.proofs.Common.{◌≡◌, ℕ, Bool, true, false, cond, List, [], Option, Some, None, is_none, ℤ, refl, sym, ap, ◌∙◌, subst}
-use Rattle.tz_zone.specs.declared.set.FixedTimespanSet.{FixedTimespanSet}
+use Rattle.tz_lookup.specs.declared.set.FixedTimespanSet.{FixedTimespanSet}
 use Rattle.zone_tail.specs.{Carried.{CarriesOn}, Found.{found_from, found_text}, Tails.{tail_fault, IsTail}, declared.outcome.TailFault.{TailFault}}
 use Rattle.zone_tzif_core.specs.Format.{is_one_line}
 use Rattle.zone_tzif.specs.Files.{consistent_footer, footer_of, is_contradicted, IsCarriedOn}

@@ -3,7 +3,7 @@ use Rattle.std.proofs.{Common.{◌≡◌, ℕ, zero, suc, ◌+◌, ◌==◌, ◌
 use Rattle.std.specs.Prelude.{◌&&◌}
 use Rattle.basics.specs.ComparisonLaws.{le_fail, le_pass}
 use Rattle.zone_spans.specs.{Entries.{Entry, total}, declared.span.FixedTimespan.{FixedTimespan}}
-use Rattle.tz_zone.specs.{Sets.{shift_of, shifts_of, span_in, total_of_span}, Spans.{Shift, shift_at}, declared.set.FixedTimespanSet.{FixedTimespanSet}}
+use Rattle.tz_lookup.specs.{Sets.{shift_of, shifts_of, span_in, total_of_span}, Spans.{Shift, shift_at}, declared.set.FixedTimespanSet.{FixedTimespanSet}}
 use Rattle.zone_tail.specs.{LastYear.{Form, steady, yearly, other}, Shapes.{entry_in}, Tails.{can_be_written, is_name}}
 use Rattle.zone_tzif.specs.{Agreement.{cycle_begin}, Tails.{IsFaultForEver}, Tried.{ever_fault, ever_form, first_from, form_fault, form_of_two, named_or, next_year, written_or}, declared.outcome.EverTailFault.{EverTailFault}}
 use Rattle.zone_tzif.specs.declared.outcome.EverTailFault.TheVariants.{Shape, OffsetRange, Name, NoRule, NoMemory}

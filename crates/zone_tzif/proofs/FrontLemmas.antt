@@ -5,7 +5,7 @@ use Rattle.std.specs.{List.{list_all, slice_index_or}, Prelude.{All}}
 use Rattle.basics.specs.ComparisonLaws.{le_pass, le_fail}
 use Rattle.civil_base.specs.Ranges.{is_offset}
 use Rattle.zone_spans.specs.Entries.{Entry, total}
-use Rattle.tz_zone.specs.{Sets.{IsAccepted, IsSpanTime, schedule_of, shift_of, shifts_of, span_in}, Spans.{IsCut, Shift, shift_at}, declared.set.FixedTimespanSet.{FixedTimespanSet}}
+use Rattle.tz_lookup.specs.{Sets.{IsAccepted, IsSpanTime, schedule_of, shift_of, shifts_of, span_in}, Spans.{IsCut, Shift, shift_at}, declared.set.FixedTimespanSet.{FixedTimespanSet}}
 use Rattle.zone_tzif.specs.EverFiles.{entries_until}
 
 -- those before the first one past a second are all up to it

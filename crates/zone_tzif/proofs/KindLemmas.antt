@@ -5,7 +5,7 @@ use Rattle.basics.specs.ComparisonLaws.{le_fail, le_pass}
 use Rattle.civil_base.specs.Instants.{seconds_of}
 use Rattle.zone_spans.specs.{Entries.{Entry, total}, Schedules.{total_at, totals_of}, declared.span.FixedTimespan.{FixedTimespan}}
 use Rattle.tz_ever.specs.{Ever.{ever_span, ever_total}, InForce.{has_come, span_by}, InForceLaws.{total_at-is}, Seam.{brought_back}}
-use Rattle.tz_zone.specs.{Compiles.{spans_of}, SecondLaws.{same_test}, Sets.{shift_of, shifts_of}, Spans.{IsCut}, declared.set.FixedTimespanSet.{FixedTimespanSet}}
+use Rattle.tz_lookup.specs.{Compiles.{spans_of}, SecondLaws.{same_test}, Sets.{shift_of, shifts_of}, Spans.{IsCut}, declared.set.FixedTimespanSet.{FixedTimespanSet}}
 use Rattle.zone_tzif.specs.{Agreement.{ever_kind}, Causes.{kind_in}, Values.{change_by, kind_by}, Walked.{come, kind_from}, declared.convert.Saves.TheVariants.{Any}}
 use Rattle.zone_tzif_core.specs.{Totals.{last_kind}, Zones.{KindValue}}
 

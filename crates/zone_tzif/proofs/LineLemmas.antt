@@ -1,7 +1,7 @@
 -- A footer that is tried for a set has no line feed and no zero byte.
 use Rattle.std.{proofs.Common.{◌≡◌, ℕ, Bool, true, false, cond, ◌&&◌, ◌==◌, List, [], ◌++◌, None, refl, ℤ, pos, int_lt, int_eq, ◌+ℤ◌, unsigned_abs}, proofs.lemmas.Bool.{and_parts}, specs.Prelude.{codes}}
 use Rattle.zone_spans.specs.Entries.{total}
-use Rattle.tz_zone.specs.declared.set.FixedTimespanSet.{FixedTimespanSet}
+use Rattle.tz_lookup.specs.declared.set.FixedTimespanSet.{FixedTimespanSet}
 use Rattle.zone_tail.specs.{CleanLaws.{IsClean, both, either, number_clean, time_clean, offset_clean, saving_clean, name_clean, named_clean}, LastYear.{Form, steady, yearly, other}, Tails.{can_be_written, is_name}, Texts.{name_text, offset_text, time_text}}
 use Rattle.zone_tzif.specs.Tried.{change_by, changes_by, ever_fault, ever_form, form_fault, moment_text, parts_text, signed_text, totals_for, tried, tried_for, written_or}
 

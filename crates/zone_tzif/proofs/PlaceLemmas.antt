@@ -3,7 +3,7 @@ use Rattle.std.proofs.{Common.{◌≡◌, ◌+◌, ◌<◌, ℕ, zero, suc, ℤ,
 use Rattle.std.specs.{Prelude.{Option, Some, None}, List.{list_all, slice_get, slice_index_or}}
 use Rattle.civil_base.specs.Ranges.{is_offset}
 use Rattle.zone_spans.specs.Entries.{Entry, total}
-use Rattle.tz_zone.specs.{Sets.{schedule_of, shift_of, shifts_of, span_in, IsAccepted}, Spans.{shift_at}, declared.set.FixedTimespanSet.{FixedTimespanSet}}
+use Rattle.tz_lookup.specs.{Sets.{schedule_of, shift_of, shifts_of, span_in, IsAccepted}, Spans.{shift_at}, declared.set.FixedTimespanSet.{FixedTimespanSet}}
 use Rattle.zone_tzif_core.specs.Zones.{KindValue}
 use Rattle.zone_tzif.{specs.Values.{change_by, kind_by}, specs.declared.convert.Saves.{Saves}, proofs.TotalLemmas.{entries_small}}
 

@@ -4,7 +4,7 @@ use Rattle.basics.specs.ComparisonLaws.{le_from_pass, le_le, le_pass}
 use Rattle.civil_base.specs.Instants.{seconds_of}
 use Rattle.zone_spans.specs.Entries.{Entry, total}
 use Rattle.tz_tzif.specs.{Faults.{SaysInFooter}, FooterForce.{FooterZone, fixed, held_at}, FooterLaws.{no_text}, InForce.{kind_at, kind_in as kind_of_file}, Spells.{SpellsFooter}, Values.{FooterValue}}
-use Rattle.tz_zone.specs.{Sets.{shifts_of, span_in, total_of_span}, declared.set.FixedTimespanSet.{FixedTimespanSet}}
+use Rattle.tz_lookup.specs.{Sets.{shifts_of, span_in, total_of_span}, declared.set.FixedTimespanSet.{FixedTimespanSet}}
 use Rattle.zone_tail.specs.Carried.{IsFrom}
 use Rattle.zone_tzif.specs.{Agreement.{AgreesForEver, cycle_begin, cycle_end, ever_kind}, EverFiles.{entries_until, ever_zone, last_of, IsFooterFor, IsInReach, IsSavedFrom}, Tails.{beginning_of}, Tells.{Tells}, Values.{change_by, kind_by, value_by}, Walked.{Agrees, come, kind_from}}
 use Rattle.zone_tzif.specs.{declared.agreeing.Agreement.{Agreement, TheVariants.{Nowhere, From, Always}}, declared.convert.Saves.TheVariants.{Any}}

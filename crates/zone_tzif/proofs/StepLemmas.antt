@@ -3,8 +3,7 @@ use Rattle.std.proofs.{Common.{◌≡◌, ◌↔◌, ℕ, zero, suc, ◌-◌, �
 use Rattle.basics.specs.ComparisonLaws.{le_le, lt_le}
 use Rattle.zone_spans.specs.Entries.{Entry}
 use Rattle.tz_tzif.specs.FooterForce.{FooterZone, held_at}
-use Rattle.tz_lookup.specs.YearSeconds.{rules_begin}
-use Rattle.tz_zone.specs.{Sets.{shift_of, shifts_of}, Spans.{IsCut, TimesDontFall}, declared.set.FixedTimespanSet.{FixedTimespanSet}}
+use Rattle.tz_lookup.specs.{YearSeconds.{rules_begin}, Sets.{shift_of, shifts_of}, Spans.{IsCut, TimesDontFall}, declared.set.FixedTimespanSet.{FixedTimespanSet}}
 use Rattle.zone_tzif.{specs.Agreement.{cycle_end, time_of_entry}, specs.Causes.{kind_in}, specs.Walked.{AgreesAt, IsWalked, Lasts, kind_from}, specs.declared.convert.Saves.TheVariants.{Any}, proofs.KindLemmas.{kind_cut}}
 use Rattle.zone_tzif_core.specs.Zones.{KindValue}
 

@@ -9,7 +9,7 @@ use Rattle.tz_posix.specs.{Spells.{Optional, absent, present, SpellsName, Spells
 use Rattle.tz_posix.specs.declared.{error.RangeError.{RangeError}, time.Offset.{Offset}, time.Time.{Time}, values.Rule.{Rule}}
 use Rattle.tz_posix.specs.declared.error.RangeError.TheVariants as miss
 use Rattle.zone_tzif_core.specs.Zones.{KindValue}
-use Rattle.tz_zone.specs.declared.set.FixedTimespanSet.{FixedTimespanSet}
+use Rattle.tz_lookup.specs.declared.set.FixedTimespanSet.{FixedTimespanSet}
 use Rattle.tz_tzif.specs.{FooterForce.{held_at, yearly, is_footer_saving, is_of_one_year, is_saved, is_saved_by, has_begun}, Ranges.{IsFooterOf}, Standing.{stands_for}, Values.{FooterValue}}
 use Rattle.zone_tail.specs.Settled.{IsOfLastYear, IsSettled}
 

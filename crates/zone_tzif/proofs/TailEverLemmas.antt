@@ -5,7 +5,7 @@ use Rattle.civil_base.specs.{Instants.{seconds_of}, RangeLaws.{offset_greatest, 
 use Rattle.zone_spans.specs.Cycle.{seconds_on}
 use Rattle.tz_ever.specs.{Seam.{brought_back, cycles_past, next_seam}, SeamLaws.{ArePast, back_by, back_is, cycles_past-are}}
 use Rattle.tz_tzif.specs.{FooterForce.{FooterZone, held_at, standard_total}, Years.{IsInYears}}
-use Rattle.tz_zone.specs.{SecondLaws.{IsSecond, one_second, second_is}, declared.set.FixedTimespanSet.{FixedTimespanSet}}
+use Rattle.tz_lookup.specs.{SecondLaws.{IsSecond, one_second, second_is}, declared.set.FixedTimespanSet.{FixedTimespanSet}}
 use Rattle.zone_tail.specs.Carried.{IsFrom}
 use Rattle.zone_tzif.{specs.Agreement.{AgreesForEver, IsCovered, cycle_begin, cycle_end}, specs.Walked.{Agrees, kind_from}, proofs.KindLemmas.{ever_is}}
 

@@ -1,7 +1,7 @@
 -- What a text says as a footer.
 use Rattle.std.proofs.Common.{◌≡◌, ℕ, List, sym, ap, ◌∙◌, subst}
 use Rattle.tz_tzif.specs.{FooterForce.{FooterZone}, Ranges.{IsFooterOf}, Spells.{SpellsFooter}, Standing.{StandsFor, stands_for}, Values.{FooterValue}}
-use Rattle.tz_zone.specs.declared.set.FixedTimespanSet.{FixedTimespanSet}
+use Rattle.tz_lookup.specs.declared.set.FixedTimespanSet.{FixedTimespanSet}
 use Rattle.zone_tzif.specs.{Tails.{CarriesNothing, TextTells}, Tells.{Tells}, declared.agreeing.Agreement.{Agreement}, declared.agreeing.Agreement.TheVariants.{Nowhere, From, Always}}
 
 -- a text stands for one footer at most

@@ -2,7 +2,7 @@
 use Rattle.std.{proofs.Common.{◌≡◌, ℕ, ℤ, pos, ◌*ℤ◌, int_le, Bool, true, false, cond, List, [], ◌∷◌, map, filter, refl, ap, ◌∙◌}, proofs.lemmas.Bool.{and_parts}, specs.List.{list_all}}
 use Rattle.civil_base.specs.Ranges.{is_offset}
 use Rattle.zone_spans.specs.{Entries.{Entry, total}, Schedules.{total_at as set_total_at, last_total}, declared.span.FixedTimespan.{FixedTimespan}}
-use Rattle.tz_zone.specs.{Sets.{schedule_of, shift_of}, declared.set.FixedTimespanSet.{FixedTimespanSet}}
+use Rattle.tz_lookup.specs.{Sets.{schedule_of, shift_of}, declared.set.FixedTimespanSet.{FixedTimespanSet}}
 use Rattle.zone_tzif_core.specs.{Totals.{file_total_at, last_kind}, Zones.{KindValue, ZoneValue}}
 use Rattle.zone_tzif.specs.{Values.{kind_by, change_by, value_by}, declared.convert.Saves.{Saves}}
 

@@ -2,7 +2,7 @@
 use Rattle.std.proofs.{Common.{◌≡◌, ℕ, ◌<◌, ℤ, pos, List, length, map, get_or, FitsSigned, sym, ap, subst, arith}, lemmas.Int.{ints}, lemmas.List.{get_or-map, length-map}, lemmas.List.Elements.{All-get_or}, lemmas.Str.{IsUtf8-string_bytes}}
 use Rattle.std.specs.{Int.{w64}, Str.{IsUtf8}}
 use Rattle.zone_spans.specs.Entries.{Entry}
-use Rattle.tz_zone.specs.{Sets.{shift_of, shifts_of, IsSpanTime, AreSpanTimes}, Spans.{Shift}, declared.set.FixedTimespanSet.{FixedTimespanSet}}
+use Rattle.tz_lookup.specs.{Sets.{shift_of, shifts_of, IsSpanTime, AreSpanTimes}, Spans.{Shift}, declared.set.FixedTimespanSet.{FixedTimespanSet}}
 use Rattle.zone_tzif_core.specs.{Shown.{shift_shown, shifts_shown, zone_shown}, Tzif.{IsValue}, Zones.{KindValue}, declared.values.TzifZone.{TzifZone}}
 use Rattle.zone_tzif.specs.{Values.{change_by, value_by}, declared.convert.Saves.{Saves}}
 

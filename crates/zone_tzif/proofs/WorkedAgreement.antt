@@ -3,7 +3,7 @@ use Rattle.std.proofs.Common.{◌≡◌, Bool, ℕ, List, None, Some, [], codes,
 use Rattle.basics.specs.SignedLaws.{signed}
 use Rattle.zone_spans.specs.declared.span.FixedTimespan.{FixedTimespan}
 use Rattle.tz_ever.specs.{Ever.{ever_span}, InForce.{span_by}, Seam.{next_seam, seam}}
-use Rattle.tz_zone.specs.declared.set.FixedTimespanSet.{FixedTimespanSet}
+use Rattle.tz_lookup.specs.declared.set.FixedTimespanSet.{FixedTimespanSet}
 use Rattle.tz_tzif.specs.{FooterForce.{FooterZone, fixed, held_at}, Years.{IsInYears}}
 use Rattle.zone_tzif.{specs.Agreement.{AgreesForEver, IsCovered, cycle_begin, cycle_end}, proofs.TailEverLemmas.{first_day, last_day, last_of_all, whole}}
 

@@ -3,7 +3,7 @@ use Rattle.std.proofs.Common.{◌≡◌, Bool, true, false, [], ◌∷◌, map, 
 use Rattle.tz_posix.specs.declared.{date.Date.TheVariants.{M}, time.Offset.{Offset}}
 use Rattle.zone_spans.specs.declared.span.FixedTimespan.{FixedTimespan}
 use Rattle.tz_tzif.specs.Values.{FooterValue}
-use Rattle.tz_zone.specs.declared.set.FixedTimespanSet.{FixedTimespanSet}
+use Rattle.tz_lookup.specs.declared.set.FixedTimespanSet.{FixedTimespanSet}
 use Rattle.zone_tzif_core.specs.{Zones.{KindValue}, declared.values.Version.TheVariants.{Two, Three}}
 use Rattle.zone_tzif.specs.{EverFiles.{entries_until, ever_zone, version_for}, Values.{value_by}}
 

@@ -1,7 +1,7 @@
 -- Which strings may say otherwise as footers, at worked rows.
 use Rattle.std.proofs.Common.{◌≡◌, true, false, List, [], ◌∷◌, map, codes, refl, ℤ, pos}
 use Rattle.zone_spans.specs.{Entries.{Entry}, declared.span.FixedTimespan.{FixedTimespan}}
-use Rattle.tz_zone.specs.declared.set.FixedTimespanSet.{FixedTimespanSet}
+use Rattle.tz_lookup.specs.declared.set.FixedTimespanSet.{FixedTimespanSet}
 use Rattle.zone_tail.specs.{LastYear.{form, standard_of}, Tails.{is_ending_early, is_outlasting}}
 use Rattle.zone_tzif.specs.Files.{is_contradicted}
 

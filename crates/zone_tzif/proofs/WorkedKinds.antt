@@ -1,7 +1,7 @@
 -- What spans are in a file, at worked rows.
 use Rattle.std.proofs.{Common.{◌≡◌, Bool, true, false, [], ◌∷◌, map, Some, None, codes, refl, sym, ℤ, pos, negsuc}, lemmas.Option.{none-some}}
 use Rattle.zone_spans.specs.declared.span.FixedTimespan.{FixedTimespan}
-use Rattle.tz_zone.specs.declared.set.FixedTimespanSet.{FixedTimespanSet}
+use Rattle.tz_lookup.specs.declared.set.FixedTimespanSet.{FixedTimespanSet}
 use Rattle.zone_tail.specs.LastYear.{form, standard_of}
 use Rattle.zone_tzif_core.specs.{Zones.{KindValue}, declared.values.WriteFault.{WriteFault}}
 use Rattle.zone_tzif_core.specs.declared.values.WriteFault.TheVariants as write

@@ -1,7 +1,7 @@
 -- Worked rows: the forms of years, the first cause, and the names of changes.
 use Rattle.std.{proofs.Common.{◌≡◌, ◌*◌, ℕ, List, [], ◌∷◌, map, true, false, Some, None, refl, ℤ, pos, neg_ℤ}, specs.Prelude.{codes}, specs.Fmt.{digits}}
 use Rattle.zone_spans.specs.{Entries.{Entry}, declared.span.FixedTimespan.{FixedTimespan}}
-use Rattle.tz_zone.specs.declared.set.FixedTimespanSet.{FixedTimespanSet}
+use Rattle.tz_lookup.specs.declared.set.FixedTimespanSet.{FixedTimespanSet}
 use Rattle.zone_tail.specs.{LastYear.{steady, yearly, other}, Texts.{time_text}}
 use Rattle.zone_tzif.specs.{Tried.{days_back, ever_form, first_from, form_fault, how_many, is_past_noon, signed_text, week_of}, declared.outcome.EverTailFault.TheVariants.{Shape, OffsetRange, Name}}
 

@@ -4,8 +4,7 @@ use Rattle.basics.specs.Days.{day}
 use Rattle.civil_base.specs.{Instants.{seconds_of}, Ranges.{IsOffset}}
 use Rattle.tz_ever.specs.Ever.{ever_span}
 use Rattle.tz_tzif.specs.FooterForce.{FooterZone, held_at, is_fixed, standard_total}
-use Rattle.tz_lookup.specs.YearSeconds.{rules_begin}
-use Rattle.tz_zone.specs.{Sets.{shifts_of}, Spans.{shift_at}, declared.set.FixedTimespanSet.{FixedTimespanSet}}
+use Rattle.tz_lookup.specs.{YearSeconds.{rules_begin}, Sets.{shifts_of}, Spans.{shift_at}, declared.set.FixedTimespanSet.{FixedTimespanSet}}
 use Rattle.zone_tail.specs.Carried.{IsFrom}
 use Rattle.zone_tzif.specs.{Values.{kind_by}, declared.convert.Saves.TheVariants.{Any}}
 use Rattle.zone_tzif_core.specs.Zones.{KindValue}

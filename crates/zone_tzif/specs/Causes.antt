@@ -1,7 +1,7 @@
 -- Spans by their numbers, as kinds of a file, each once.
 use Rattle.std.specs.Prelude.{◌≡◌, ℕ, ◌<◌, Bool, true, false, List, [], bytes_eq, length, map, Option, Some, None}
 use Rattle.arrayvec.specs.ArrayVec.{ArrayVec}
-use Rattle.tz_zone.specs.{Sets.{span_in}, declared.set.FixedTimespanSet.{FixedTimespanSet}}
+use Rattle.tz_lookup.specs.{Sets.{span_in}, declared.set.FixedTimespanSet.{FixedTimespanSet}}
 use Rattle.zone_tzif_core.specs.{Tzif.{added, each_once, is_same, kinds_of}, Zones.{KindValue}}
 use Rattle.zone_tzif.specs.{Values.{kind_by, value_by}, declared.convert.Saves.{Saves}}
 

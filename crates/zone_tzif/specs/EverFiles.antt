@@ -3,7 +3,7 @@ use Rattle.std.specs.Prelude.{◌≡◌, ◌⊎◌, ℕ, Bool, true, ◌&&◌, n
 use Rattle.civil_base.specs.Ranges.{IsOffset}
 use Rattle.tz_tzif.specs.{FooterForce.{FooterZone, fixed}, Values.{FooterValue, SavingValue}}
 use Rattle.tz_posix.specs.declared.time.Offset.{Offset}
-use Rattle.tz_zone.specs.declared.set.FixedTimespanSet.{FixedTimespanSet}
+use Rattle.tz_lookup.specs.declared.set.FixedTimespanSet.{FixedTimespanSet}
 use Rattle.zone_spans.specs.Entries.{Entry}
 use Rattle.zone_tzif.specs.{Agreement.{IsCovered, cycle_begin}, Tails.{IsFaultForEver, IsTailForEver, beginning_of}, Tells.{Tells}, Walked.{kind_from}, declared.agreeing.Agreement.TheVariants.{Nowhere}, declared.outcome.EverTailFault.TheVariants.{NoRule}, Files.{IsFileFault}, Values.{value_by}, declared.convert.Saves.TheVariants.{Any}, declared.ever.EverFileFault.{EverFileFault}}
 use Rattle.zone_tzif.specs.declared.file.FileFault.{FileFault}

@@ -1,6 +1,6 @@
 -- The file of a compiled set, and why there is none.
 use Rattle.std.specs.Prelude.{◌≡◌, ℕ, Bool, ◌||◌, List, [], Option, Some, None, Result, Ok, Err, if◌then◌else◌, is_none}
-use Rattle.tz_zone.specs.declared.set.FixedTimespanSet.{FixedTimespanSet}
+use Rattle.tz_lookup.specs.declared.set.FixedTimespanSet.{FixedTimespanSet}
 use Rattle.zone_tail.specs.{Carried.{CarriesOn}, Found.{found_from, found_text}, Tails.{is_ending_early, is_outlasting, tail_fault, IsTail}}
 use Rattle.zone_tzif_core.specs.{Tzif.{tzif, tzif_by, write_fault}, Zones.{ZoneValue}, declared.values.Version.{Version}, declared.values.Version.TheVariants.{Two}, declared.values.WriteFault.{WriteFault}}
 use Rattle.zone_tzif_core.specs.declared.values.WriteFault.TheVariants as write

@@ -2,7 +2,7 @@
 use Rattle.std.specs.Prelude.{◌≡◌, ℕ, ℤ, ◌<ℤ◌, false, List, None}
 use Rattle.civil_base.specs.Instants.{seconds_of}
 use Rattle.tz_tzif.specs.{FooterForce.{FooterZone}, Standing.{StandsFor}}
-use Rattle.tz_zone.specs.declared.set.FixedTimespanSet.{FixedTimespanSet}
+use Rattle.tz_lookup.specs.declared.set.FixedTimespanSet.{FixedTimespanSet}
 use Rattle.zone_tail.specs.Tails.{end_of_last_year, tail_fault}
 use Rattle.zone_tzif.specs.Files.{is_contradicted}
 

@@ -1,6 +1,6 @@
 -- What was found of the entries of 2102.
 use Rattle.std.specs.Prelude.{◌≡◌, ℕ, ◌<◌, ◌≤◌, ◌&&◌, length, true}
-use Rattle.tz_zone.specs.{Sets.{span_in}, declared.set.FixedTimespanSet.{FixedTimespanSet}}
+use Rattle.tz_lookup.specs.{Sets.{span_in}, declared.set.FixedTimespanSet.{FixedTimespanSet}}
 use Rattle.zone_tail.specs.Shapes.{entry_in}
 use Rattle.zone_tail.specs.LastYear as year
 use Rattle.zone_tzif.specs.{Tried.{is_of_year}, declared.form.Form.{Form}, declared.form.Form.TheVariants.{Steady, Yearly, Other}}

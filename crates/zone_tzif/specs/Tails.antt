@@ -1,7 +1,7 @@
 -- The footer that carries a set on for ever, and why there is none.
 use Rattle.std.specs.Prelude.{◌≡◌, ℕ, ◌<◌, List, Option, Some, None, ℤ}
 use Rattle.tz_tzif.specs.{FooterForce.{FooterZone}, Standing.{StandsFor}}
-use Rattle.tz_zone.specs.declared.set.FixedTimespanSet.{FixedTimespanSet}
+use Rattle.tz_lookup.specs.declared.set.FixedTimespanSet.{FixedTimespanSet}
 use Rattle.zone_tzif.specs.{Tells.{Tells}, Tried.{ever_fault, how_many, tried}, declared.agreeing.Agreement.{Agreement}, declared.agreeing.Agreement.TheVariants.{Nowhere, From, Always}, declared.outcome.EverTailFault.{EverTailFault}}
 use Rattle.zone_tzif.specs.declared.outcome.EverTailFault.TheVariants as fault
 

@@ -1,6 +1,6 @@
 -- Where a footer begins to say what a set shows for ever, as it is told.
 use Rattle.tz_tzif.specs.FooterForce.{FooterZone}
-use Rattle.tz_zone.specs.declared.set.FixedTimespanSet.{FixedTimespanSet}
+use Rattle.tz_lookup.specs.declared.set.FixedTimespanSet.{FixedTimespanSet}
 use Rattle.zone_tzif.specs.{Agreement.{AgreesAlways, AgreesFirstFrom, AgreesNowhere}, declared.agreeing.Agreement.{Agreement}, declared.agreeing.Agreement.TheVariants.{Nowhere, From, Always}}
 
 abbrev pub Tells : FooterZone → FixedTimespanSet → Agreement → Type 0

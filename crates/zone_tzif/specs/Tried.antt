@@ -3,7 +3,7 @@ use Rattle.std.specs.{Prelude.{ℕ, suc, ◌+◌, ◌-◌, ◌/◌, ◌%◌, Boo
 use Rattle.std.specs.{Int.{int_div_euclid, int_rem_euclid}, Ordering.{int_eq}}
 use Rattle.basics.specs.{Dates.{day_of, month_of, year_of}, Days.{days_in_month}, Weekdays.{weekday_of}}
 use Rattle.zone_spans.specs.Entries.{Entry, total}
-use Rattle.tz_zone.specs.{Sets.{shifts_of, span_in}, Spans.{Shift}, declared.set.FixedTimespanSet.{FixedTimespanSet}}
+use Rattle.tz_lookup.specs.{Sets.{shifts_of, span_in}, Spans.{Shift}, declared.set.FixedTimespanSet.{FixedTimespanSet}}
 use Rattle.zone_tail.specs.{LastYear.{Form, steady, yearly, other}, Shapes.{entry_in}, Tails.{can_be_written, is_name}, Texts.{name_text, offset_text, saving_text, time_text}}
 use Rattle.zone_tzif.specs.{Agreement.{cycle_begin}, declared.outcome.EverTailFault.{EverTailFault}}
 use Rattle.zone_tzif.specs.declared.outcome.EverTailFault.TheVariants as fault

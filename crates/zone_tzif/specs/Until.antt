@@ -1,7 +1,7 @@
 -- What is seen of the front of a set for ever.
 use Rattle.std.specs.Prelude.{take}
 use Rattle.tz_ever.specs.ZoneShown.{zone_set_of}
-use Rattle.tz_zone.specs.declared.set.FixedTimespanSet.{FixedTimespanSet}
+use Rattle.tz_lookup.specs.declared.set.FixedTimespanSet.{FixedTimespanSet}
 use Rattle.zone_tzif.specs.declared.until.Until.{Until}
 
 -- its first entries

@@ -1,7 +1,7 @@
 -- What a compiled set is in a file.
 use Rattle.std.specs.{Prelude.{ℕ, ℤ, pos, Bool, not, int_lt, List, map}, Ordering.{int_eq}}
 use Rattle.zone_spans.specs.{Entries.{Entry, total}, declared.span.FixedTimespan.{FixedTimespan}}
-use Rattle.tz_zone.specs.declared.set.FixedTimespanSet.{FixedTimespanSet}
+use Rattle.tz_lookup.specs.declared.set.FixedTimespanSet.{FixedTimespanSet}
 use Rattle.zone_tzif_core.specs.Zones.{KindValue, ZoneValue}
 use Rattle.zone_tzif.specs.declared.convert.Saves.{Saves, TheVariants.{Above, Any}}
 

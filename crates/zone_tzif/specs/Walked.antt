@@ -2,8 +2,7 @@
 use Rattle.std.specs.Prelude.{◌≡◌, ℕ, suc, ◌<◌, ◌≤◌, List, filter, length, map, Option, Some, ℤ, pos, neg_ℤ, ◌≤ℤ◌, ◌<ℤ◌, int_le}
 use Rattle.zone_spans.specs.Entries.{Entry}
 use Rattle.tz_tzif.specs.FooterForce.{FooterZone, held_at}
-use Rattle.tz_lookup.specs.YearSeconds.{rules_begin}
-use Rattle.tz_zone.specs.{Sets.{shifts_of}, declared.set.FixedTimespanSet.{FixedTimespanSet}}
+use Rattle.tz_lookup.specs.{YearSeconds.{rules_begin}, Sets.{shifts_of}, declared.set.FixedTimespanSet.{FixedTimespanSet}}
 use Rattle.zone_tail.specs.Carried.{IsFrom}
 use Rattle.zone_tzif.specs.{Agreement.{cycle_end, time_of_entry}, Values.{change_by, kind_by}, declared.convert.Saves.TheVariants.{Any}}
 use Rattle.zone_tzif_core.specs.{Totals.{last_kind}, Zones.{KindValue}}

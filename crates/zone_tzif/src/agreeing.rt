@@ -2,7 +2,7 @@
 ghost use Rattle.std.specs.Prelude.{◌≡◌, ◌<◌, ◌↔◌, IsTrue, true, length, pos, ◌≤ℤ◌};
 ghost use Rattle.civil_base.specs.Ranges.{IsOffset};
 ghost use Rattle.tz_tzif.specs.{FooterShown.{footer_shown}, FooterForce.{held_at, is_fixed, standard_total}};
-ghost use Rattle.tz_zone.specs.Sets.{IsAccepted, schedule_of, shifts_of};
+ghost use Rattle.tz_lookup.specs.Sets.{IsAccepted, schedule_of, shifts_of};
 ghost use Rattle.zone_tzif_core.specs.Shown.{record_shown};
 ghost use Rattle.zone_tzif.specs.{Agreement.{AgreesAlways, cycle_begin, time_of_entry}, Tells.{Tells, TellsEntry}, Walked.{IsWalked}};
 

@@ -1,7 +1,7 @@
 //! The call.
 ghost use Rattle.std.specs.Prelude.{◌≡◌, ◌<◌, IfOk, MatchOption, MatchResult, None, string_bytes};
 ghost use Rattle.tz_ever.specs.ZoneShown.{zone_set_of};
-ghost use Rattle.tz_zone.specs.Sets.{IsAccepted, schedule_of};
+ghost use Rattle.tz_lookup.specs.Sets.{IsAccepted, schedule_of};
 ghost use Rattle.zone_tzif.specs.{Forms.{Shows}, Tails.{CarriesForEver, CarriesNothing, IsFaultForEver, IsTailForEver, TextTells}, Tried.{ever_fault, ever_form, how_many, tried}};
 
 use crate::agreeing::{Agreement, first_agreement};

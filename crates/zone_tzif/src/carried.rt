@@ -2,7 +2,7 @@
 ghost use Rattle.std.specs.Prelude.{◌≡◌, ℕ, ℤ, ◌<ℤ◌, List, Option, Some, true};
 ghost use Rattle.civil_base.specs.Instants.{seconds_of};
 ghost use Rattle.zone_spans.specs.Schedules.{total_at as set_total_at};
-ghost use Rattle.tz_zone.specs.{Sets.{schedule_of}, declared.set.FixedTimespanSet.{FixedTimespanSet}};
+ghost use Rattle.tz_lookup.specs.{Sets.{schedule_of}, declared.set.FixedTimespanSet.{FixedTimespanSet}};
 ghost use Rattle.tz_tzif.specs.{FooterForce.{FooterZone, is_of_one_year}, Standing.{StandsFor}, Faults.{SaysInFooter}, InForce.{are_over, told_total_at}};
 ghost use Rattle.zone_tail.specs.{Carried.{CarriesOn}, Tails.{IsTail, end_of_last_year, is_ending_early}};
 ghost use Rattle.zone_tzif_core.specs.{Denotes.{Denotes}, Tzif.{IsTzif}, Zones.{ZoneValue}};

@@ -3,14 +3,14 @@ ghost use Rattle.std.specs.{Prelude.{◌≡◌, ◌≢◌, ◌==◌, ◌+◌, �
 ghost use Rattle.arrayvec.specs.ArrayVec.{array_vec_len};
 ghost use Rattle.civil_base.specs.Ranges.{is_offset};
 ghost use Rattle.zone_spans.specs.Entries.{total};
-ghost use Rattle.tz_zone.specs.{Sets.{schedule_of, shifts_of, span_in, IsAccepted}, Spans.{shift_at}};
+ghost use Rattle.tz_lookup.specs.{Sets.{schedule_of, shifts_of, span_in, IsAccepted}, Spans.{shift_at}};
 ghost use Rattle.zone_tzif_core.specs.{Shown.{record_shown}, Tzif.{added, are_names, are_times, is_same, name_bytes, write_fault}, Zones.{rises}};
 ghost use Rattle.zone_tzif.specs.{Causes.{kind_in, name_in, names_in, AddsKind, AreKinds}, Files.{IsFileFault}, Values.{kind_by, value_by, value_of}};
 
 use crate::convert::Saves;
 use crate::file::FileFault;
 use arrayvec::ArrayVec;
-use tz_zone::SpanTable;
+use tz_lookup::SpanTable;
 use zone_spans::FixedTimespan;
 use zone_tzif_core::{Record, WriteFault};
 

@@ -2,12 +2,12 @@
 ghost use Rattle.std.specs.Prelude.{◌≡◌, ◌<◌, ℤ, true, Some, length, map, slice_get, IfOk};
 ghost use Rattle.civil_base.specs.Ranges.{is_offset};
 ghost use Rattle.zone_spans.specs.{Entries.{total}, Schedules.{total_at as set_total_at}};
-ghost use Rattle.tz_zone.specs.Sets.{schedule_of, IsAccepted};
+ghost use Rattle.tz_lookup.specs.Sets.{schedule_of, IsAccepted};
 ghost use Rattle.zone_tzif_core.specs.{Shown.{kind_shown, shift_shown, shifts_shown, zone_shown}, Totals.{file_total_at}, Tzif.{IsValue}};
 ghost use Rattle.zone_tzif.specs.Values.{kind_by, change_by, value_by, value_of};
 
 use std::alloc::{AllocError, Global};
-use tz_zone::SpanTable;
+use tz_lookup::SpanTable;
 use zone_spans::FixedTimespan;
 use zone_tzif_core::{Kind, TzifZone};
 

@@ -2,7 +2,7 @@
 ghost use Rattle.std.specs.Prelude.{◌≡◌, ℕ, ℤ, IfOk, List, MatchResult, Option};
 ghost use Rattle.tz_ever.specs.{Ever.{ever_total}, ZoneShown.{zone_set_of}};
 ghost use Rattle.tz_tzif.specs.{FooterForce.{FooterZone}, Faults.{SaysInFooter}, InForce.{kind_at, told_total_at}};
-ghost use Rattle.tz_zone.specs.declared.set.FixedTimespanSet.{FixedTimespanSet};
+ghost use Rattle.tz_lookup.specs.declared.set.FixedTimespanSet.{FixedTimespanSet};
 ghost use Rattle.zone_tzif.specs.{Agreement.{ever_kind}, Tails.{IsFaultForEver}, EverFiles.{IsEverFile, IsEverFileFault, IsFooterFor, IsInReach}, declared.outcome.EverTailFault.TheVariants.{NoRule}};
 ghost use Rattle.zone_tzif_core.specs.{Denotes.{Denotes}, Zones.{ZoneValue}};
 

@@ -1,7 +1,7 @@
 //! Why no footer is tried for a set.
 ghost use Rattle.std.specs.Prelude.{◌≡◌, ◌<◌, ◌&&◌, length, pos, neg_ℤ, ◌≤ℤ◌};
 ghost use Rattle.civil_base.specs.Ranges.{greatest_offset};
-ghost use Rattle.tz_zone.specs.Sets.{IsAccepted, schedule_of};
+ghost use Rattle.tz_lookup.specs.Sets.{IsAccepted, schedule_of};
 ghost use Rattle.zone_spans.specs.Entries.{total};
 ghost use Rattle.zone_tail.specs.{Shapes.{entry_in}, Tails.{can_be_written, is_name}};
 ghost use Rattle.zone_tzif.specs.{Forms.{ArePlaced, Shows}, Tried.{ever_fault, ever_form, written_or}};

@@ -1,7 +1,7 @@
 //! The file of a compiled set.
 ghost use Rattle.std.specs.Prelude.{◌≡◌, ◌≢◌, ℤ, None, Some, IfOk, string_bytes};
 ghost use Rattle.zone_spans.specs.Schedules.{total_at as set_total_at};
-ghost use Rattle.tz_zone.specs.Sets.{schedule_of, IsAccepted};
+ghost use Rattle.tz_lookup.specs.Sets.{schedule_of, IsAccepted};
 ghost use Rattle.zone_tail.specs.{Carried.{CarriesOn}, Found.{found_from}, Tails.{tail_fault}};
 ghost use Rattle.zone_tzif_core.specs.{Denotes.{Denotes}, Totals.{file_total_at}, Tzif.{IsTzif, IsTzifBy, write_fault}, Zones.{ZoneValue}};
 ghost use Rattle.zone_tzif.specs.{Files.{consistent_footer, consistent_zone, footer_of, is_contradicted, zone_of, IsCarriedOn, Makes, MakesBy, MakesZone}, Values.{value_by}};
@@ -11,7 +11,7 @@ use crate::convert::{Saves, zone_by};
 use crate::laws::few_causes;
 use std::alloc::{AllocError, Global};
 use thiserror::Error;
-use tz_zone::SpanTable;
+use tz_lookup::SpanTable;
 use zone_tail::laws::one_tail;
 use zone_tail::{TailFault, is_ending_early, is_outlasting, tail};
 use zone_tzif_core::{Version, WriteFault, each_denotes, one_reading, write_version};

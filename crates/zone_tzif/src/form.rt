@@ -1,6 +1,6 @@
 //! The entries of 2102, a year that comes again every 400 years.
 ghost use Rattle.std.specs.Prelude.{◌≡◌, ◌≤◌, ◌<◌, length, pos};
-ghost use Rattle.tz_zone.specs.Sets.{shifts_of};
+ghost use Rattle.tz_lookup.specs.Sets.{shifts_of};
 ghost use Rattle.zone_tail.specs.Shapes.{entry_in};
 ghost use Rattle.zone_tzif.specs.{Forms.{Shows}, Tried.{are_start_and_end, ever_form, first_from, form_of_two, is_of_year}};
 

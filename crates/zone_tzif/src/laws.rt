@@ -1,7 +1,7 @@
 //! What a file of a compiled set says.
 ghost use Rattle.std.specs.Prelude.{◌≡◌, ◌≢◌, ℕ, ℤ, List, Some};
 ghost use Rattle.zone_spans.specs.Schedules.{total_at as set_total_at};
-ghost use Rattle.tz_zone.specs.{Sets.{schedule_of, IsAccepted}, declared.set.FixedTimespanSet.{FixedTimespanSet}};
+ghost use Rattle.tz_lookup.specs.{Sets.{schedule_of, IsAccepted}, declared.set.FixedTimespanSet.{FixedTimespanSet}};
 ghost use Rattle.zone_tzif_core.specs.{Denotes.{Denotes}, Totals.{file_total_at}, Tzif.{IsTzif}, Zones.{ZoneValue}};
 ghost use Rattle.zone_tzif.specs.{Files.{consistent_fault, file_fault}, Values.{value_of}};
 

@@ -2,16 +2,15 @@
 ghost use Rattle.std.specs.Prelude.{◌≡◌, ℤ, IsTrue, Option, false};
 ghost use Rattle.civil_base.specs.Ranges.{IsOffset};
 ghost use Rattle.tz_tzif.specs.FooterShown.{footer_shown, held_shown};
-ghost use Rattle.tz_zone.specs.Sets.{IsAccepted, schedule_of};
+ghost use Rattle.tz_lookup.specs.Sets.{IsAccepted, schedule_of};
 ghost use Rattle.zone_tzif.specs.{EverFiles.{IsNotSaved, IsSavedFrom, last_of}, Tails.{beginning_of}, Tells.{Tells}, declared.agreeing.Agreement.TheVariants.{Nowhere}};
 
 use crate::agreeing::{Agreement, first_agreement};
 use crate::causes::kind_at;
 use crate::convert::Saves;
 use crate::until::{CYCLE_BEGIN, count_until};
-use tz_lookup::{Offset, SpanTable};
+use tz_lookup::{Offset, SpanTable, offset_of};
 use tz_tzif::{Footer, Held};
-use tz_zone::offset_of;
 
 /// Whether daylight saving time holds for good, from the beginning of 2102 at the latest.
 pub(crate) fn is_saved_for_good<S: SpanTable>(set: &S) -> bool

@@ -1,7 +1,7 @@
 //! The footers that are tried for a set.
 ghost use Rattle.std.specs.Prelude.{◌≡◌, ◌<◌, ◌&&◌, ◌++◌, IfOk, None, OnOk, length, string_bytes, true, pos, neg_ℤ, ◌+ℤ◌, ◌≤ℤ◌, ◌<ℤ◌};
 ghost use Rattle.civil_base.specs.Ranges.{greatest_offset};
-ghost use Rattle.tz_zone.specs.Sets.{IsAccepted, schedule_of};
+ghost use Rattle.tz_lookup.specs.Sets.{IsAccepted, schedule_of};
 ghost use Rattle.zone_spans.specs.Entries.{total};
 ghost use Rattle.zone_tail.specs.{LastYear.{yearly}, Shapes.{entry_in}, Tails.{can_be_written}};
 ghost use Rattle.zone_tzif.specs.{Forms.{ArePlaced, Shows}, Tried.{changes_by, ever_fault, ever_form, how_many, is_of_year, next_year, tried, tried_for}, Agreement.{cycle_begin}};

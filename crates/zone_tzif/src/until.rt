@@ -1,11 +1,11 @@
 //! The front of a set for ever.
 ghost use Rattle.std.specs.Prelude.{◌≡◌, ◌<◌, ◌≤◌, length, take};
 ghost use Rattle.tz_ever.specs.ZoneShown.{zone_set_of};
-ghost use Rattle.tz_zone.specs.{Sets.{IsAccepted, schedule_of, shifts_of}, Spans.{IsCut}};
+ghost use Rattle.tz_lookup.specs.{Sets.{IsAccepted, schedule_of, shifts_of}, Spans.{IsCut}};
 ghost use Rattle.zone_tzif.specs.EverFiles.{entries_until};
 
 use tz_ever::ZoneSet;
-use tz_zone::{FixedTimespan, SpanTable};
+use tz_lookup::{FixedTimespan, SpanTable};
 
 /// 2102-01-01 00:00:00 UTC.
 pub(crate) const CYCLE_BEGIN: i64 = 4_165_516_800;
@@ -22,7 +22,7 @@ pub(crate) struct Until<'a> {
 impl<'a> Until<'a> {
     ghost use Rattle.std.specs.Prelude.{◌≡◌};
     ghost use Rattle.tz_ever.specs.ZoneShown.{zone_set_of};
-    ghost use Rattle.tz_zone.specs.Sets.{IsAccepted, schedule_of};
+    ghost use Rattle.tz_lookup.specs.Sets.{IsAccepted, schedule_of};
     ghost use Rattle.zone_tzif.specs.{Agreement.{cycle_begin}, EverFiles.{until}, Until.{until_of}};
 
     /// The entries up to 2102-01-01 00:00:00 UTC.

@@ -1,8 +1,7 @@
 //! How far back a footer says what a set shows.
 ghost use Rattle.std.specs.Prelude.{◌≡◌, suc, ◌≤◌, ◌<◌, ◌↔◌, IsTrue, length, ℤ, ◌≤ℤ◌, ◌<ℤ◌};
 ghost use Rattle.tz_tzif.specs.{FooterForce.{held_at}, FooterShown.{footer_shown, held_shown}};
-ghost use Rattle.tz_lookup.specs.YearSeconds.{rules_begin};
-ghost use Rattle.tz_zone.specs.Sets.{IsAccepted, schedule_of, shifts_of};
+ghost use Rattle.tz_lookup.specs.{YearSeconds.{rules_begin}, Sets.{IsAccepted, schedule_of, shifts_of}};
 ghost use Rattle.zone_tzif_core.specs.Shown.{record_shown};
 ghost use Rattle.zone_tzif.specs.{Agreement.{cycle_end, time_of_entry}, Walked.{AgreesAt, IsNear, IsWalked, Lasts}};
 

@@ -6,7 +6,7 @@ use Rattle.zone_table.specs.{Tables.{IsTableOf}, declared.table.Table.{Table}}
 use Rattle.tz_lookup.specs.{CompactShown.{seen}, Compiles.{compiled_in, IsCompiledAs}, declared.compact_set.CompactSet.{CompactSet}}
 use Rattle.sefunjaro.specs.{Causes.{IsZoneCause}, declared.error.Error.{Error}}
 use Rattle.sefunjaro.specs.declared.error.Error.TheVariants as error
-use Rattle.tz_zone.specs.declared.compile.ZoneFault.TheVariants as zone
+use Rattle.tz_lookup.specs.declared.compile.ZoneFault.TheVariants as zone
 use Rattle.zone_uses.specs.{Causes.{IsOpenCause}, Opened.{IsOpened}}
 
 pub opened_from : (source name : List ℕ) (table : Table) (found : Result CompactSet Error) → IsTableOf table (values_of source)

@@ -1,7 +1,7 @@
 -- The instants of rings, as the code has them and as they are shown.
 use Rattle.std.{proofs.Common.{◌≡◌, ℤ, List, [], ◌∷◌, map, filter_map, Option, Some, None, option_map, refl, ap}, specs.List.{cons_option}}
 use Rattle.civil_base.specs.declared.offset_date_time.OffsetDateTime.{OffsetDateTime}
-use Rattle.tz_zone.specs.InForce.{shown_of}
+use Rattle.tz_lookup.specs.InForce.{shown_of}
 use Rattle.zone_alarm.specs.{Shown.{ring_shown}, declared.ring.Ring.{Ring}}
 
 one_shown : (at : Option OffsetDateTime) (found : List OffsetDateTime) (shown : List (ℤ × ℤ)) → map shown_of found ≡ shown

@@ -1,7 +1,7 @@
 -- Why a zone that was opened from a source isn't there is why its offset isn't.
 use Rattle.std.{proofs.Common.{◌≡◌, ℕ, List, Result, Ok, Err, IfErr, sym, subst}, specs.Result.{IsErrAnd}}
-use Rattle.tz_zone.specs.{Compiles.{compiled_in, IsZoneFault}, declared.compile.ZoneFault.{ZoneFault}}
-use Rattle.tz_zone.specs.declared.compile.ZoneFault.TheVariants as zone
+use Rattle.tz_lookup.specs.{Compiles.{compiled_in, IsZoneFault}, declared.compile.ZoneFault.{ZoneFault}}
+use Rattle.tz_lookup.specs.declared.compile.ZoneFault.TheVariants as zone
 use Rattle.sefunjaro.specs.{AnySources.{IsAnySource}, Errors.{of_zone}, Sources.{table_in}, declared.error.Error.{Error}, declared.source.OpenSource.{OpenSource}}
 use Rattle.zone_uses.specs.Causes.{IsOffsetCause}
 

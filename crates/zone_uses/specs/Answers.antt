@@ -1,7 +1,7 @@
 -- What the callers answer.
 use Rattle.std.specs.{Prelude.{◌≡◌, ℕ, ℤ, int_lt, List, [], ◌∷◌, Option, Some, None, Ok}, List.{find}}
 use Rattle.tz_posix.specs.{Parses.{IsParsed}, PosixShown.{posix_of}, PosixZones.{GivesTotal}, declared.posix.PosixTz.{PosixTz}}
-use Rattle.tz_zone.specs.declared.set.FixedTimespanSet.{FixedTimespanSet}
+use Rattle.tz_lookup.specs.declared.set.FixedTimespanSet.{FixedTimespanSet}
 use Rattle.tz_tzif.specs.{Faults.{SaysInFooter}, InForce.{told_total_at}, Zones.{value_of, says_of}, declared.zone.TzifTz.{TzifTz}}
 use Rattle.zone_tzif_core.specs.{Denotes.{Says}, Zones.{ZoneValue}}
 

@@ -7,8 +7,8 @@ use Rattle.tz_posix.specs.{Parses.{IsParsed}, PosixShown.{posix_of}, PosixZones.
 use Rattle.tz_posix.specs.declared.error.Error as range
 use Rattle.tz_tzif.specs.{Faults.{IsTzifFault}, declared.fault.TzifFault.{TzifFault}}
 use Rattle.tz_tzif.specs.declared.fault.TzifFault.TheVariants as file_zone
-use Rattle.tz_zone.specs.{Compiles.{compiled_in, IsZoneFault}, declared.compile.ZoneFault.{ZoneFault}, declared.set.FixedTimespanSet.{FixedTimespanSet}}
-use Rattle.tz_zone.specs.declared.compile.ZoneFault.TheVariants as zone
+use Rattle.tz_lookup.specs.{Compiles.{compiled_in, IsZoneFault}, declared.compile.ZoneFault.{ZoneFault}, declared.set.FixedTimespanSet.{FixedTimespanSet}}
+use Rattle.tz_lookup.specs.declared.compile.ZoneFault.TheVariants as zone
 use Rattle.zone_alarm.specs.Rings.{ends_in_years}
 use Rattle.zone_alarm.specs.declared.ring.AlarmFault.TheVariants as alarm
 use Rattle.zone_outside.specs.Limit.{text_limit}

@@ -3,7 +3,7 @@ use Rattle.std.{proofs.Common.{◌≡◌, Bool, true, false, cond, List, [], ◌
 use Rattle.basics.specs.ComparisonLaws.{lt_from_pass, lt_from_fail, lt_le}
 use Rattle.civil_base.specs.{Instants.{instant_at}, Ranges.{IsOffset}}
 use Rattle.zone_spans.specs.Schedules.{instants}
-use Rattle.tz_zone.specs.{InForce.{AreInstants, totals_at}, InstantLaws.{from_reading, instants_one, reads_back}, RisingLaws.{Rises, pairs_more, contains_head, contains_more, cases_more}}
+use Rattle.tz_lookup.specs.{InForce.{AreInstants, totals_at}, InstantLaws.{from_reading, instants_one, reads_back}, RisingLaws.{Rises, pairs_more, contains_head, contains_more, cases_more}}
 use Rattle.zone_uses.specs.Moves.{total_around, around_list}
 
 total_early : (change a b t : ℤ) → int_lt t change ≡ true → total_around change a b t ≡ a

@@ -1,6 +1,6 @@
 //! A daily alarm.
 ghost use Rattle.std.specs.Prelude.{◌≡◌, ◌++◌, true, IfErr, IfOk, OnOk, filter_map, map, option_to_list};
-ghost use Rattle.tz_zone.specs.InForce.{shown_of};
+ghost use Rattle.tz_lookup.specs.InForce.{shown_of};
 ghost use Rattle.zone_alarm.specs.{Rings.{ends_in_years, rings}, Shown.{ring_shown}};
 ghost use Rattle.zone_uses.specs.Causes.{IsAlarmCause};
 

@@ -1,8 +1,7 @@
 //! A zone asked both ways.
 ghost use Rattle.std.specs.Prelude.{◌≡◌, IfOk, IfSome, is_some, map, option_map};
 ghost use Rattle.civil_base.specs.{DateTimes.{instant}, Instants.{local_at}, Ranges.{is_in_years}};
-ghost use Rattle.tz_lookup.specs.CompactShown.{seen};
-ghost use Rattle.tz_zone.specs.{InForce.{all_in_force, in_force, shown_of, AreInstants}, Sets.{schedule_of}};
+ghost use Rattle.tz_lookup.specs.{CompactShown.{seen}, InForce.{all_in_force, in_force, shown_of, AreInstants}, Sets.{schedule_of}};
 ghost use Rattle.zone_spans.specs.Schedules.{total_at};
 ghost use Rattle.zone_uses.specs.Answers.{first_of};
 

@@ -2,8 +2,7 @@
 ghost use Rattle.std.specs.{Prelude.{◌≡◌, filter, length, option_map, IfOk}, List.{find}, Str.{bytes_eq}};
 ghost use Rattle.civil_base.specs.DateTimes.{instant};
 ghost use Rattle.zone_spans.specs.Schedules.{total_at};
-ghost use Rattle.tz_lookup.specs.Databases.{has_part};
-ghost use Rattle.tz_zone.specs.Sets.{schedule_of};
+ghost use Rattle.tz_lookup.specs.{Databases.{has_part}, Sets.{schedule_of}};
 
 use sefunjaro::{Database, Offset, OffsetDateTime, TimeZone, UtcOffset};
 use std::alloc::{AllocError, Global};

@@ -5,7 +5,7 @@ ghost use Rattle.zone_spans.specs.Schedules.{instants};
 ghost use Rattle.zone_uses.specs.Moves.{total_around};
 
 use civil_base::{OffsetDateTime, PlainDateTime, UtcOffset};
-use tz_zone::{Offset, OffsetResult, TimeZone};
+use tz_lookup::{Offset, OffsetResult, TimeZone};
 
 /// A zone that changes its offset once, at an instant in nanoseconds from 1970-01-01 00:00:00 UTC, and never has a saving.
 #[derive(Clone, Copy, Debug, Drop)]
@@ -27,7 +27,7 @@ pub struct MovedOffset<'a> {
 
 impl<'a> Moved<'a> {
     ghost use Rattle.std.specs.Prelude.{◌≡◌, map};
-    ghost use Rattle.tz_zone.specs.Answers.{listed, EachOf};
+    ghost use Rattle.tz_lookup.specs.Answers.{listed, EachOf};
     ghost use Rattle.civil_base.specs.DateTimes.{instant};
     ghost use Rattle.zone_uses.specs.{Moves.{around_list, total_around}, MovedShown.{name_shown, total_shown}};
 

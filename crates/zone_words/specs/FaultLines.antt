@@ -1,7 +1,6 @@
 -- The line that tells a fault of words.
 use Rattle.std.specs.{Prelude.{ℕ, List, [], ◌∷◌, ◌++◌, length, nat_eq, codes, if◌then◌else◌}, Option.{option_map_or}}
-use Rattle.zone_moments.specs.FaultTexts.{fault_text}
-use Rattle.zone_words.specs.{Faults.{Fault}, declared.fault.WordCause.{WordCause}}
+use Rattle.zone_words.specs.{FaultTexts.{fault_text}, Faults.{Fault}, declared.fault.WordCause.{WordCause}}
 use Rattle.zone_words.specs.declared.fault.WordCause.TheVariants as cause
 
 abbrev pub cause_text : WordCause → List ℕ

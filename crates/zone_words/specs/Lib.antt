@@ -1,4 +1,20 @@
 -- Definitions: what public clauses say.
+pub mod Numbers
+pub mod Pieces
+pub mod Readings
+pub mod Spells
+pub mod TimesShown
+pub mod Stamps
+pub mod Written
+pub mod FaultTexts
+pub mod Lines
+pub mod Replies
+pub mod Filters
+pub mod Cuts
+pub mod Room
+pub mod Runs
+pub mod Fronts
+pub mod Logs
 pub mod Faults
 pub mod Told
 pub mod Options

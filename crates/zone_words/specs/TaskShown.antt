@@ -1,8 +1,6 @@
 -- What the code's answers show.
 use Rattle.std.specs.Prelude.{map, option_map}
-use Rattle.zone_moments.specs.Shown.{asked}
-use Rattle.zone_words.specs.{Shown.{word_shown}, Tasks.{AlarmAsked, TaskAsked, WordsAsked, help, version, at_instants, local_time, converted, list_changes, alarm, names, stream, log, tree, file, posix_string, chart, plain_form}, declared.task.Alarm.{Alarm}}
-use Rattle.zone_words.specs.declared.task.{Asked.{Asked}, Task.{Task}}
+use Rattle.zone_words.specs.{TimesShown.{asked}, Shown.{word_shown}, Tasks.{AlarmAsked, TaskAsked, WordsAsked, help, version, at_instants, local_time, converted, list_changes, alarm, names, stream, log, tree, file, posix_string, chart, plain_form}, declared.task.Alarm.{Alarm}, declared.task.{Asked.{Asked}, Task.{Task}}}
 use Rattle.zone_words.specs.declared.task.Task.TheVariants as task
 
 abbrev pub alarm_shown : Alarm → AlarmAsked

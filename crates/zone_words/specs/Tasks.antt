@@ -1,7 +1,6 @@
 -- What words ask.
 use Rattle.std.specs.Prelude.{ℕ, Bool, List, Option, ℤ}
-use Rattle.zone_moments.specs.declared.answer_form.AnswerForm.{AnswerForm}
-use Rattle.zone_words.specs.declared.{command.Command.{Command}, task.FoldRule.{FoldRule}, task.GapRule.{GapRule}}
+use Rattle.zone_words.specs.{declared.answer_form.AnswerForm.{AnswerForm}, declared.{command.Command.{Command}, task.FoldRule.{FoldRule}, task.GapRule.{GapRule}}}
 
 abbrev pub Word : Type 0
 Word = List ℕ

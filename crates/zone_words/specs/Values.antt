@@ -2,8 +2,7 @@
 use Rattle.std.specs.{Prelude.{ℕ, List, [], ◌∷◌, ◌++◌, Option, Some, None, Result, Ok, Err, ℤ, nat_le, nat_lt, codes, if◌then◌else◌}, Option.{option_map_or}}
 use Rattle.civil_base.specs.Layout.{day_part, time_part}
 use Rattle.basics.specs.Numbers.{is_numeral, value_in}
-use Rattle.zone_moments.specs.{Readings.{asked_in, local_in}, declared.fault.TextFault.{TextFault}, declared.fault.TextFault.TheVariants.{NoSuchDate, DateMissing}}
-use Rattle.zone_words.specs.{Faults.{Reading, wrong, ◌>>=◌}, declared.fault.WordCause.TheVariants.{TooFew, TooMany, Number, Year, Text}}
+use Rattle.zone_words.specs.{Readings.{asked_in, local_in}, declared.text_fault.TextFault.{TextFault}, declared.text_fault.TextFault.TheVariants.{NoSuchDate, DateMissing}, Faults.{Reading, wrong, ◌>>=◌}, declared.fault.WordCause.TheVariants.{TooFew, TooMany, Number, Year, Text}}
 
 -- a text's value, or its fault as that of a word
 abbrev pub of_word : {A : Type 0} → List ℕ → Result A TextFault → Reading A

@@ -1,8 +1,6 @@
 -- What words ask, or their first fault.
 use Rattle.std.specs.{Prelude.{List, [], ◌∷◌, Option, Some, None, Ok, codes, if◌then◌else◌}, Option.{option_map_or}}
-use Rattle.zone_moments.specs.declared.answer_form.AnswerForm.{AnswerForm, TheVariants.{People, Rfc3339, Epoch, Json}}
-use Rattle.zone_words.specs.{Arguments.{task_in}, Commands.{command_named, takes}, Faults.{Reading, wrong, ◌>>=◌}, Options.{GivenOption, has, value_of}, Sorted.{sorted}, Tasks.{TaskAsked, Word, WordsAsked, help, plain_form, version}, declared.command.Command.{Command}}
-use Rattle.zone_words.specs.declared.fault.WordCause.TheVariants.{CommandMissing, OtherOption, UnknownCommand}
+use Rattle.zone_words.specs.{declared.answer_form.AnswerForm.{AnswerForm, TheVariants.{People, Rfc3339, Epoch, Json}}, Arguments.{task_in}, Commands.{command_named, takes}, Faults.{Reading, wrong, ◌>>=◌}, Options.{GivenOption, has, value_of}, Sorted.{sorted}, Tasks.{TaskAsked, Word, WordsAsked, help, plain_form, version}, declared.command.Command.{Command}, declared.fault.WordCause.TheVariants.{CommandMissing, OtherOption, UnknownCommand}}
 
 -- for people where no form is told
 abbrev pub form_in : List GivenOption → AnswerForm

@@ -1,7 +1,7 @@
 //! Why words ask nothing.
 
+use crate::text_fault::TextFault;
 use std::alloc::AllocError;
-use zone_moments::TextFault;
 
 /// Why words ask nothing. All but `Text`, `Year`, `BeforeFirst` and `NoMemory` are of words in no form; these three are of times that can't
 /// be read, or not be taken.

@@ -2,13 +2,13 @@
 ghost use Rattle.std.specs.Prelude.{◌≡◌, map, option_map, string_bytes};
 ghost use Rattle.zone_words.specs.{Shown.{given_shown, word_shown}, TaskShown.{task_shown, words_shown}, Told.{Reads}, Words.{command_in, form_in, help_in, of_command, other_option, source_in, whole_task, words_in}};
 
+use crate::answer_form::AnswerForm;
 use crate::arguments::task_in;
 use crate::command::{command_named, takes};
 use crate::given::{Given, has, value_of};
 use crate::sorted::sort_words;
 use crate::{Asked, Command, Reading, Task, WordCause, WordFault};
 use std::alloc::Global;
-use zone_moments::AnswerForm;
 
 /// The form of the answers.
 fn form_in(given: &[Given<'_>]) -> AnswerForm

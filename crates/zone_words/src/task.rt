@@ -1,8 +1,9 @@
 //! What words ask.
 
 use crate::Command;
+use crate::answer_form::AnswerForm;
+use crate::instant::Asked as Instant;
 use civil_base::{Date, PlainDateTime, Time};
-use zone_moments::{AnswerForm, Asked as Instant};
 
 /// What an alarm does whose time of day is skipped on a day.
 #[derive(Clone, Copy, Debug, PartialEq, Eq)]

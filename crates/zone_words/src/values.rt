@@ -1,14 +1,15 @@
 //! The values that words spell.
 ghost use Rattle.std.specs.Prelude.{◌≡◌, ◌++◌, ◌∷◌, [], IfOk, OnOk, map, string_bytes};
-ghost use Rattle.zone_moments.specs.{Readings.{local_in}, Shown.{asked}};
-ghost use Rattle.zone_words.specs.{Alarms.{if_told}, Options.{value_of}, Shown.{given_shown, word_shown}, Told.{Reads}, Values.{date_cause, date_in, digits_in, instant_in, instants_in, number_in, number_of, of_one, of_two, text_in, time_in, year_in, year_of}};
+ghost use Rattle.zone_words.specs.{Readings.{local_in}, TimesShown.{asked}, Alarms.{if_told}, Options.{value_of}, Shown.{given_shown, word_shown}, Told.{Reads}, Values.{date_cause, date_in, digits_in, instant_in, instants_in, number_in, number_of, of_one, of_two, text_in, time_in, year_in, year_of}};
 
 use crate::given::{Given, value_of};
+use crate::instant::{Asked, read_instant};
+use crate::local::read_local;
+use crate::text_fault::TextFault;
 use crate::{Reading, WordCause, WordFault};
 use basics::{is_numeral, u16_of_digits};
 use civil_base::{Date, PlainDateTime, Time};
 use std::alloc::{AllocError, Global};
-use zone_moments::{Asked, TextFault, read_instant, read_local};
 
 /// Two words as one text, with a space between them.
 fn joined(alloc: Global, first: &str, second: &str) -> Result<String, AllocError>

@@ -3,9 +3,9 @@
 use crate::tests::checks::{holds, prints};
 use civil_base::UtcOffset;
 use std::process::Abort;
-use zone_moments::{
-    Asked, TextFault, add_epoch, add_local, add_people, add_rfc3339, read_instant, read_local,
-    read_stamp,
+use zone_words::{
+    AskedInstant as Asked, TextFault, add_epoch, add_local, add_people, add_rfc3339, read_instant,
+    read_local, read_stamp,
 };
 
 /// Whether a local time is written so in each form: alone, for people, and by RFC 3339, with `|` between them.

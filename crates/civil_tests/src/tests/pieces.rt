@@ -10,7 +10,7 @@ use zone_outside::{
     Environment, Exchange, MemClock, MemEnvironment, MemExchange, ProgramEnvironment, StdExchange,
     SystemClock, WallClock,
 };
-use zone_pieces::{InstantTexts, Responder, StreamEnd, run_log, run_stream};
+use zone_words::{InstantTexts, Responder, StreamEnd, run_log, run_stream};
 
 /// Says each request again; an empty one is a fault.
 #[derive(Drop)]

@@ -2,8 +2,7 @@
 use Rattle.std.proofs.Common.{◌≡◌, refl, [], ◌∷◌, map, true, false, pos, neg_ℤ, List, ◌++◌, arith, ◌≤◌, ℤ, ◌+ℤ◌, ◌*ℤ◌, unsigned_abs, ◌∙◌, sym, ℕ, ◌+◌, ◌≤ℤ◌, int_le, None, zero, suc, ap, ◌-ℤ◌, length, filter, inl, inr, subst, cond, reverse, ◌<ℤ◌}
 use Rattle.std.proofs.lemmas.Bool.{cases_Bool}
 use Rattle.basics.specs.{ComparisonLaws.{le_from_pass, le_fail, lt_fail}, Days.{day}, MonthLaws.{days_through-two}, SignedLaws.{signed, natural}, YearLaws.{day-cycle, cycle_days-rise}}
-use Rattle.zone_values.specs.{Days.{named_day}, declared.time.TimeType.{TimeType}, declared.time.TimeType.TheVariants.{Wall, UTC, Standard}}
-use Rattle.zone_table.specs.{Moments.{instant_of, moment}, declared.rule.RuleInfo.{RuleInfo}}
+use Rattle.zone_table.specs.{Days.{named_day}, declared.time.TimeType.{TimeType}, declared.time.TimeType.TheVariants.{Wall, UTC, Standard}, Moments.{instant_of, moment}, declared.rule.RuleInfo.{RuleInfo}}
 use Rattle.zone_spans.specs.{Collapse.{kept_of}, Entries.{entry_of, Entry, total, sorted_entries_over}, Firings.{earliest, fired, year_firings, Fired, Firing, is_earlier}, Lines.{Line}, Years.{earliest_year}, declared.span.FixedTimespan.{FixedTimespan}}
 use Rattle.zone_spans.specs.{Later.{firings_from, first_fired, later_entries}, Settled.{are_settled, is_lasting}}
 use Rattle.tz_ever.specs.InForce.{has_come, span_by}

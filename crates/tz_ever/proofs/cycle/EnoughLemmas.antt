@@ -4,8 +4,7 @@ use Rattle.std.proofs.lemmas.{Bool.{and_parts}, Bool.Decides.{nat_tests}, List.{
 use Rattle.std.specs.{List.{list_all}, Option.{option_map_or}}
 use Rattle.basics.specs.{Cycles.{cycle_days}, Days.{day}, MonthLaws.{days_through-two}, SignedLaws.{signed}, YearLaws.{day-cycle}}
 use Rattle.civil_base.specs.Ranges.{is_offset}
-use Rattle.zone_values.specs.{Bounds.{are_small_seconds}, Days.{has_day_of_month}, Ends.{end_day}, declared.change.ChangeTime.{ChangeTime}}
-use Rattle.zone_table.specs.{Bounds.{is_bounded_rule, is_bounded_info, is_bounded_saving}, Moments.{applies_to_year}, declared.rule.RuleInfo.{RuleInfo}, declared.zone.ZoneInfo.{ZoneInfo}}
+use Rattle.zone_table.specs.{LineBounds.{are_small_seconds}, Days.{has_day_of_month}, Ends.{end_day}, declared.change.ChangeTime.{ChangeTime}, Bounds.{is_bounded_rule, is_bounded_info, is_bounded_saving}, Moments.{applies_to_year}, declared.rule.RuleInfo.{RuleInfo}, declared.zone.ZoneInfo.{ZoneInfo}}
 use Rattle.zone_spans.specs.{Bounds.{is_bounded_line}, Collapse.{is_no_later, is_same_span, kept_of, kept_with, collapsed, without_first}, Compiled.{compiled, compiled_over}, Entries.{entry_of, Entry, total, sorted_entries_over}}
 use Rattle.zone_spans.specs.{Firings.{earliest, fired, year_firings, Firing, is_earlier, firings_of_years}, Lines.{Line, Rulesets, zone_lines}, Schedules.{totals_of, total_at, is_in_offset_range, schedule_over}, Years.{earliest_year}}
 use Rattle.zone_spans.specs.{declared.span.FixedTimespan.{FixedTimespan}, declared.span.FixedTimespanSet.{FixedTimespanSet}, GoesOn.{GoesOn, cycle_entries}, Later.{first_fired, later_entries, later_fired}}

@@ -1,8 +1,7 @@
 -- A day outside its year is met in the first 700 years, or never; and the first span is the same over more years.
 use Rattle.std.proofs.{Common.{◌≡◌, refl, true, false, pos, arith, ◌≤◌, ℤ, ◌+ℤ◌, ◌∙◌, sym, ℕ, ◌+◌, ◌*◌, ◌<◌, Bool, ◌&&◌, ◌||◌, ◌≤ℤ◌, int_le, zero, suc, ap, ◌-◌, inl, inr, not, int_lt}, lemmas.Bool.{cases_lt, cases_Bool}, lemmas.Int.{ints}}
 use Rattle.basics.specs.{Days.{day}, SignedLaws.{signed}}
-use Rattle.zone_values.specs.Days.{named_day, is_in_year}
-use Rattle.zone_table.specs.{Moments.{applies_to_year}, declared.rule.RuleInfo.{RuleInfo}}
+use Rattle.zone_table.specs.{Days.{named_day, is_in_year}, Moments.{applies_to_year}, declared.rule.RuleInfo.{RuleInfo}}
 use Rattle.zone_spans.specs.{Faults.{is_outside, some_year}, Years.{earliest_year}, Cycle.{days_on, next_cycle}, Settled.{is_settled}}
 use Rattle.tz_ever.proofs.cycle.{DayLemmas.{day-repeats}, MomentLemmas.{named_day-repeats}, SettledLemmas.{applies-settled}}
 

@@ -2,8 +2,7 @@
 use Rattle.std.proofs.{Common.{◌≡◌, List, [], ◌∷◌, ℤ, pos, refl, Bool, ap, ◌∙◌, arith, ◌+ℤ◌, ◌≤ℤ◌, ◌+◌, ◌≤◌, true, false, filter, sym, ◌-◌, inl, inr, not, ◌&&◌, ◌||◌, int_le, int_lt, cond, neg_ℤ, unsigned_abs}, lemmas.Bool.{cases_Bool}}
 use Rattle.std.specs.List.{list_all}
 use Rattle.basics.specs.{ComparisonLaws.{le_from_pass}, Days.{day}, SignedLaws.{signed, natural}}
-use Rattle.zone_values.specs.{Bounds.{are_small_seconds}, Days.{named_day, is_in_year, has_day_of_month}}
-use Rattle.zone_table.specs.{Bounds.{is_bounded_rule}, Moments.{applies_to_year}, declared.rule.RuleInfo.{RuleInfo}}
+use Rattle.zone_table.specs.{LineBounds.{are_small_seconds}, Days.{named_day, is_in_year, has_day_of_month}, Bounds.{is_bounded_rule}, Moments.{applies_to_year}, declared.rule.RuleInfo.{RuleInfo}}
 use Rattle.zone_spans.specs.{Faults.{is_outside, some_year}, Years.{earliest_year}, GoesOn.{some_leaves}, Settled.{are_settled, is_lasting, is_settled, lasting}}
 use Rattle.tz_ever.proofs.cycle.{BoundLemmas.{AllFit, FitForEver, Fits}, FaultLemmas.{found_in_first, is_outside-repeats}, SettledLemmas.{and_first, and_second, applies-settled}}
 

@@ -1,10 +1,7 @@
 -- A made zone of two rules in years far off, by what Python's zoneinfo says over zic's file of it.
 use Rattle.std.{proofs.Common.{◌≡◌, refl, [], ◌∷◌, map, true, false, pos, List, codes, ℤ, ◌*ℤ◌, ◌∙◌, ℕ, Some, None, Option, Ok}, specs.Int.Signed.{le_z_yes}}
 use Rattle.basics.specs.{Dates.{last_with}, Days.{days_after_zero, year_start, days_through, days_into_year, day, is_leap, days_in_year, days_in_month}, Weekdays.{weekday_of}}
-use Rattle.zone_values.specs.{Days.{named_day, first_from, is_in_year}, declared.change.ChangeTime.TheVariants.{UntilYear}, declared.day.DaySpec.TheVariants.{Ordinal, Last}, declared.month.Month.{Month}}
-use Rattle.zone_values.specs.declared.{month.Month.TheVariants.{January, March, July, October}, time.TimeType.{TimeType}, time.TimeType.TheVariants.{Wall, UTC}, weekday.Weekday.TheVariants.{Sunday}, year.Year.TheVariants.{Maximum, Number}}
-use Rattle.zone_table.specs.{Formats.{abbreviation, filled}, Moments.{applies_to_year, instant_of, last_year, moment}, declared.zone.Format.TheVariants.{Constant, Placeholder}, declared.rule.RuleInfo.{RuleInfo}}
-use Rattle.zone_table.specs.declared.zone.{Saving.TheVariants.{NoSaving, Multiple}, ZoneInfo.{ZoneInfo}}
+use Rattle.zone_table.specs.{Days.{named_day, first_from, is_in_year}, declared.change.ChangeTime.TheVariants.{UntilYear}, declared.day.DaySpec.TheVariants.{Ordinal, Last}, declared.month.Month.{Month}, declared.{month.Month.TheVariants.{January, March, July, October}, time.TimeType.{TimeType}, time.TimeType.TheVariants.{Wall, UTC}, weekday.Weekday.TheVariants.{Sunday}, year.Year.TheVariants.{Maximum, Number}}, Formats.{abbreviation, filled}, Moments.{applies_to_year, instant_of, last_year, moment}, declared.zone.Format.TheVariants.{Constant, Placeholder}, declared.rule.RuleInfo.{RuleInfo}, declared.zone.{Saving.TheVariants.{NoSaving, Multiple}, ZoneInfo.{ZoneInfo}}}
 use Rattle.zone_spans.specs.{Collapse.{kept_of, kept_with, collapsed, without_first}, Compiled.{compiled, compiled_over, set_of_lines_over}, Entries.{first_span, entries_from_over, entries_of_over, next_start_over, sorted_entries_over}}
 use Rattle.zone_spans.specs.{Faults.{is_outside, some_year, leaves_year_over, schedule_fault_over}, Firings.{earliest, fired, year_firings, firings_of_years, line_firings_over, years_over}, Lines.{Rulesets, zone_lines}, Listing.{listed_from, start_firing}}
 use Rattle.zone_spans.specs.{Schedules.{totals_of, total_at, schedule_over}, Windows.{line_end}, declared.span.FixedTimespan.{FixedTimespan}, declared.span.FixedTimespanSet.{FixedTimespanSet}, Cycle.{instant_on}}

@@ -2,7 +2,7 @@
 use Rattle.std.proofs.{Common.{◌≡◌, List, [], ◌∷◌, Some, None, ℤ, pos, refl, Bool, arith, ◌*ℤ◌, true, false, ◌++◌, not, ◌&&◌, ◌||◌, find, option_map, int_lt, Option, subst, int_eq, ◌<ℤ◌, is_none, is_some}, lemmas.Bool.{and_parts}}
 use Rattle.std.specs.List.{list_all, list_any}
 use Rattle.basics.specs.{Sorted.{stable_sort}, ComparisonLaws.{eq_from_pass}}
-use Rattle.zone_values.specs.declared.change.ChangeTime.{ChangeTime}
+use Rattle.zone_table.specs.declared.change.ChangeTime.{ChangeTime}
 use Rattle.zone_spans.specs.{Entries.{is_sooner, start_entry, Entry, fixed_span, at_start, span_of, entries_from_over, sorted_entries_over}, Firings.{Firing}, Lines.{Line, is_ruled}, Listing.{start_firing}, declared.span.FixedTimespan.{FixedTimespan}}
 use Rattle.zone_spans.specs.{GoesOn.{are_cycle_later, cycle_entries, ends_by_then, is_apart, is_before_2101, is_in_order, is_still, kept_over, last_goes_on, some_leaves, turns}, Later.{begun_entries, first_fired, start_after}}
 use Rattle.zone_spans.specs.Settled.{are_settled, is_lasting}

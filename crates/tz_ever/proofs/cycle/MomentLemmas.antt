@@ -1,9 +1,7 @@
 -- The days that rules name, and the moments at which they fire, are the same in the next cycle, a cycle later.
 use Rattle.std.proofs.Common.{◌≡◌, refl, pos, arith, ℤ, ◌+ℤ◌, ◌*ℤ◌, ◌∙◌, ℕ, Bool, ◌≤ℤ◌, zero, suc, ◌==◌, ap, ◌-ℤ◌, nat_abs}
 use Rattle.basics.specs.{Dates.{last_with}, Days.{day, days_in_month}, SignedLaws.{signed}, Weekdays.{weekday_of}}
-use Rattle.zone_values.specs.{Days.{named_day, first_from, last_up_to}, Months.{month_number}, Weekdays.{weekday_number}, declared.day.DaySpec.{DaySpec}, declared.day.DaySpec.TheVariants.{Ordinal, Last, LastOnOrBefore, FirstOnOrAfter}}
-use Rattle.zone_values.specs.declared.{month.Month.{Month}, time.TimeType.{TimeType}, time.TimeType.TheVariants.{Wall, UTC, Standard}}
-use Rattle.zone_table.specs.{Moments.{instant_of, moment}, declared.rule.RuleInfo.{RuleInfo}}
+use Rattle.zone_table.specs.{Days.{named_day, first_from, last_up_to}, Months.{month_number}, Weekdays.{weekday_number}, declared.day.DaySpec.{DaySpec}, declared.day.DaySpec.TheVariants.{Ordinal, Last, LastOnOrBefore, FirstOnOrAfter}, declared.{month.Month.{Month}, time.TimeType.{TimeType}, time.TimeType.TheVariants.{Wall, UTC, Standard}}, Moments.{instant_of, moment}, declared.rule.RuleInfo.{RuleInfo}}
 use Rattle.zone_spans.specs.Cycle.{days_on, next_cycle, seconds_on}
 use Rattle.tz_ever.proofs.cycle.DayLemmas.{day-repeats, days_in_month-repeats, weekday_of-repeats}
 

@@ -1,8 +1,7 @@
 -- Where the saving is the same on both sides of a cycle, all that fires later repeats; and rules of one clock see to that.
 use Rattle.std.proofs.{Common.{◌≡◌, refl, [], ◌∷◌, map, true, false, pos, List, ◌++◌, arith, ◌≤◌, ℤ, ◌∙◌, sym, ℕ, ◌+◌, ◌≤ℤ◌, None, suc, ap, length, filter, int_lt, cond}, lemmas.Int.{ints}}
 use Rattle.basics.specs.SignedLaws.{signed}
-use Rattle.zone_values.specs.declared.time.TimeType.{TimeType, TheVariants.{Wall, UTC, Standard}}
-use Rattle.zone_table.specs.{Moments.{instant_of, moment}, declared.rule.RuleInfo.{RuleInfo}}
+use Rattle.zone_table.specs.{declared.time.TimeType.{TimeType, TheVariants.{Wall, UTC, Standard}}, Moments.{instant_of, moment}, declared.rule.RuleInfo.{RuleInfo}}
 use Rattle.zone_spans.specs.{Firings.{earliest, fired, year_firings, Fired, is_earlier, firings_of_years}, Years.{earliest_year}, Cycle.{firing_on, next_cycle}, Later.{firings_from}, Settled.{HaveClock, are_settled, is_lasting}}
 use Rattle.zone_spans.specs.LaterLaws.{firings_of_years-split}
 use Rattle.tz_ever.proofs.cycle.FiringLemmas.{firings_from-repeats, year_firings-repeats, year_firings-settled}

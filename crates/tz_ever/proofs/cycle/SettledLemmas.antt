@@ -1,7 +1,6 @@
 -- Rules of which none begins or ends after 2099.
 use Rattle.std.proofs.{Common.{◌≡◌, List, [], ◌∷◌, ℤ, pos, refl, Bool, ap, ◌∙◌, arith, ◌≤ℤ◌, true, false, filter, ◌&&◌}, lemmas.Int.{ints}}
-use Rattle.zone_values.specs.declared.year.Year.{Year, TheVariants.{Maximum, Number, Minimum}}
-use Rattle.zone_table.specs.{Moments.{applies_to_year, last_year, is_at_most, is_at_least}, declared.rule.RuleInfo.{RuleInfo}}
+use Rattle.zone_table.specs.{declared.year.Year.{Year, TheVariants.{Maximum, Number, Minimum}}, Moments.{applies_to_year, last_year, is_at_most, is_at_least}, declared.rule.RuleInfo.{RuleInfo}}
 use Rattle.zone_spans.specs.Settled.{are_settled, is_lasting, is_max, is_settled, is_settled_end}
 
 pub and_first : (a b : Bool) → a && b ≡ true → a ≡ true

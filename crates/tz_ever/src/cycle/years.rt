@@ -1,8 +1,7 @@
 //! The schedule over a number of years, and rules that are settled by 2099.
 ghost use Rattle.std.specs.Prelude.{◌≡◌, ℕ, suc, ◌+◌, ◌≤◌, true, List, length, None, ℤ, pos, ◌≤ℤ◌};
 ghost use Rattle.zone_spans.specs.{Cycle.{fired_on, next_cycle}, Settled.{HaveClock, are_settled, lasting}, Compiled.{compiled, compiled_over}, Firings.{firings_of_years, year_firings}, Lines.{Rulesets}, Years.{most_years}};
-ghost use Rattle.zone_table.specs.declared.{rule.RuleInfo.{RuleInfo}, zone.ZoneInfo.{ZoneInfo}};
-ghost use Rattle.zone_values.specs.declared.time.TimeType.{TimeType};
+ghost use Rattle.zone_table.specs.{declared.{rule.RuleInfo.{RuleInfo}, zone.ZoneInfo.{ZoneInfo}}, declared.time.TimeType.{TimeType}};
 
 /// Over the 300 years that a line expands without an end, a zone's spans are those that `zone_spans` compiles, and so is its fault.
 pub fn over_as_many_years()

@@ -1,6 +1,6 @@
 use Rattle.std.proofs.{Common.{◌≤ℤ◌, ◌<ℤ◌, SFits, rules, sym, ap, ◌∙◌, subst, w64, arith}, lemmas.Int.{to_z-of_z, ints}}
 use Rattle.basics.specs.ComparisonLaws.{lt_le}
-use Rattle.tz_zone.specs.{Sets.{shifts_of}, Spans.{IsCut}}
+use Rattle.tz_lookup.specs.{Sets.{shifts_of}, Spans.{IsCut}}
 use Rattle.sefunjaro.specs.Answers.{end_second, up_to_end}
 use Rattle.sefunjaro.proofs.answer.seconds_around.Goals as goal
 

@@ -1,5 +1,5 @@
 use Rattle.std.proofs.{Common.{◌<◌, length, to_z, of_z, to_z-of_z, w64, arith}, lemmas.List.{length-map}}
-use Rattle.tz_zone.specs.Sets.{shift_of}
+use Rattle.tz_lookup.specs.Sets.{shift_of}
 use Rattle.sefunjaro.proofs.ChangeLemmas.{met_more, met_none, met_window}
 use Rattle.sefunjaro.proofs.changes.changes.Goals as goal
 

@@ -1,5 +1,5 @@
 use Rattle.std.proofs.Common.{◌≡◌, ◌+◌, ◌-◌, ◌/◌, ◌<◌, length, to_z, of_z, to_z-of_z, w64, subst, arith}
-use Rattle.tz_zone.specs.Sets.{shifts_of}
+use Rattle.tz_lookup.specs.Sets.{shifts_of}
 use Rattle.sefunjaro.{specs.ChangeSteps.{AreParted}, proofs.ChangeLemmas.{after_more, before_more, parted_at}}
 use Rattle.sefunjaro.proofs.changes.entries_before.Goals as goal
 

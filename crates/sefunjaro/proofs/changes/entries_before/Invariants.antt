@@ -1,5 +1,5 @@
 use Rattle.std.proofs.Common.{◌-◌, ◌<◌, ◌≤◌, ◌<ℤ◌, ◌≤ℤ◌, ℕ, length}
-use Rattle.tz_zone.specs.{Sets.{shifts_of}, Spans.{shift_at}}
+use Rattle.tz_lookup.specs.{Sets.{shifts_of}, Spans.{shift_at}}
 use Rattle.sefunjaro.proofs.changes.entries_before.Given as goal
 
 -- the entries below the lower place lie before the second, and those from the higher place on don't

@@ -1,5 +1,5 @@
 use Rattle.std.{proofs.Common.{◌≡◌, ◌<◌, ◌≤◌, ◌<ℤ◌, ℕ, length, map, drop}, specs.Prelude.{filter, int_lt}}
-use Rattle.tz_zone.specs.{Sets.{shifts_of}, Spans.{shift_at}}
+use Rattle.tz_lookup.specs.{Sets.{shifts_of}, Spans.{shift_at}}
 use Rattle.sefunjaro.specs.Changes.{change_of, changes_of, settled_changes}
 use Rattle.sefunjaro.proofs.changes.next_change.Given as goal
 

@@ -1,5 +1,5 @@
 use Rattle.std.proofs.Common.{◌≡◌, to_z, of_z, to_z-of_z, FitsSigned, w64, sym, ap, ◌∙◌, subst, rules}
-use Rattle.tz_zone.specs.{Sets.{shifts_of}, Spans.{IsCut}}
+use Rattle.tz_lookup.specs.{Sets.{shifts_of}, Spans.{IsCut}}
 use Rattle.sefunjaro.proofs.ChangeLemmas.{saving_is}
 use Rattle.sefunjaro.proofs.changes.saving_at.Goals as goal
 

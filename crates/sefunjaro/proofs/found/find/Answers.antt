@@ -1,5 +1,5 @@
 use Rattle.std.proofs.{Common.{◌∙◌, map, sym}, lemmas.List.{length-map}}
-use Rattle.tz_zone.specs.InForce.{all_in_force}
+use Rattle.tz_lookup.specs.InForce.{all_in_force}
 use Rattle.sefunjaro.{specs.Asked.{reading_of}, proofs.FoundLemmas.{among_is}}
 use Rattle.sefunjaro.proofs.found.find.Goals as goal
 

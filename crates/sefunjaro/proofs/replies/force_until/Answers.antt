@@ -1,5 +1,5 @@
 use Rattle.std.proofs.{Common.{◌≡◌, to_z, of_z, to_z-of_z, w64, sym, ap, ◌∙◌}, lemmas.Result.{IfOk-weaker}}
-use Rattle.zone_replies.specs.{Forces.{force_shown}, declared.force.Force.{Force}}
+use Rattle.zone_texts.specs.{Forces.{force_shown}, declared.force.Force.{Force}}
 use Rattle.sefunjaro.{specs.Changes.{span_before}, specs.Replies.{force_of}, proofs.ChangeLemmas.{before_is}}
 use Rattle.sefunjaro.proofs.replies.force_until.Goals as goal
 

@@ -1,6 +1,6 @@
 use Rattle.std.proofs.{Common.{◌≡◌, to_z, of_z, to_z-of_z, w64, sym, ap, ◌∙◌, subst, arith}, lemmas.List.{length-map}}
 use Rattle.zone_spans.specs.Entries.{total}
-use Rattle.tz_zone.specs.{Sets.{shift_of, shifts_of}, Spans.{IsCut}}
+use Rattle.tz_lookup.specs.{Sets.{shift_of, shifts_of}, Spans.{IsCut}}
 use Rattle.sefunjaro.proofs.{ChangeLemmas.{on_is}, ReplyLemmas.{total_is}}
 use Rattle.sefunjaro.proofs.replies.offset_on.Goals as goal
 

@@ -1,6 +1,6 @@
 use Rattle.std.proofs.{Common.{to_z, of_z, to_z-of_z, w64, ap, ◌∙◌, arith}, lemmas.List.{length-map}}
 use Rattle.zone_spans.specs.Entries.{total}
-use Rattle.tz_zone.specs.Sets.{shift_of}
+use Rattle.tz_lookup.specs.Sets.{shift_of}
 use Rattle.sefunjaro.{specs.Changes.{span_before}, proofs.ChangeLemmas.{before_is}, proofs.ReplyLemmas.{total_is}}
 use Rattle.sefunjaro.proofs.replies.offset_until.Goals as goal
 

@@ -1,6 +1,6 @@
 use Rattle.std.proofs.Common.{◌≡◌, length, sym, subst}
 use Rattle.tz_ever.specs.{Asked.{asked_recurrence, asked_set}, Recurrences.{zone_total}, ZoneShown.{recurrence_of, zone_set_of}}
-use Rattle.tz_zone.specs.InForce.{all_in_force}
+use Rattle.tz_lookup.specs.InForce.{all_in_force}
 use Rattle.sefunjaro.{specs.GapPlaces.{HoldsSeconds}, proofs.GapLemmas.{never_read}}
 use Rattle.sefunjaro.proofs.zone.zone_gap.Goals as goal
 

@@ -1,6 +1,5 @@
 use Rattle.std.proofs.Common.{◌≡◌, to_z, of_z, to_z-of_z, w64, subst}
-use Rattle.sefunjaro_handles.specs.Held.{OfKept, OnZone}
-use Rattle.sefunjaro_c.{specs.Changes.{AreChanges}, proofs.AskedLemmas.{handed}}
+use Rattle.sefunjaro_c.{specs.{Held.{OfKept, OnZone}, Changes.{AreChanges}}, proofs.AskedLemmas.{handed}}
 use Rattle.sefunjaro_c.proofs.changes.sefunjaro_changes_by.Goals as goal
 
 pub returns-clause-answer : goal.returns-clause-answer

@@ -1,7 +1,6 @@
 use Rattle.std.proofs.Common.{◌≡◌, to_z-of_z, subst}
 use Rattle.sefunjaro.specs.{Changes.{next_after}, Zones.{spans_in}}
-use Rattle.sefunjaro_handles.specs.Held.{OfKept, OnZone}
-use Rattle.sefunjaro_c.{specs.Changes.{IsFound}, proofs.AskedLemmas.{handed}}
+use Rattle.sefunjaro_c.{specs.{Held.{OfKept, OnZone}, Changes.{IsFound}}, proofs.AskedLemmas.{handed}}
 use Rattle.sefunjaro_c.proofs.changes.sefunjaro_next_change_by.Goals as goal
 
 pub returns-clause-answer : goal.returns-clause-answer

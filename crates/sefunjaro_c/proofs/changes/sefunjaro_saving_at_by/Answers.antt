@@ -1,7 +1,6 @@
 use Rattle.std.proofs.Common.{◌≡◌, to_z-of_z, subst}
 use Rattle.sefunjaro.specs.{Changes.{saving_at}, Zones.{spans_in}}
-use Rattle.sefunjaro_handles.specs.Held.{OfKept, OnZone}
-use Rattle.sefunjaro_c.{specs.Answers.{Where}, specs.Times.{is_instant}, proofs.AskedLemmas.{handed}}
+use Rattle.sefunjaro_c.{specs.{Held.{OfKept, OnZone}, Answers.{Where}, Times.{is_instant}}, proofs.AskedLemmas.{handed}}
 use Rattle.sefunjaro_c.proofs.changes.sefunjaro_saving_at_by.Goals as goal
 
 pub returns-clause-answer : goal.returns-clause-answer

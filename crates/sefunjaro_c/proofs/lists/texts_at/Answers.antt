@@ -1,7 +1,6 @@
 use Rattle.std.{proofs.Common.{◌≡◌, length}, specs.Arc.{arc_value}, specs.Prelude.{Ok, Err}}
 use Rattle.sefunjaro.specs.{Rooms.{filled}, Shown.{texts_of, textless_place, AreTexts}}
-use Rattle.sefunjaro_handles.specs.declared.opened.Opened.TheVariants.{Zone}
-use Rattle.sefunjaro_c.proofs.{ListLemmas.{no_place, one_place}, ShownLemmas.{told_places}}
+use Rattle.sefunjaro_c.{specs.declared.opened.Opened.TheVariants.{Zone}, proofs.{ListLemmas.{no_place, one_place}, ShownLemmas.{told_places}}}
 use Rattle.sefunjaro_c.proofs.lists.texts_at.Goals as goal
 
 pub returns-in-Ok-clause-answer : goal.returns-in-Ok-clause-answer

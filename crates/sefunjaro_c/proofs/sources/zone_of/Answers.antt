@@ -1,5 +1,5 @@
 use Rattle.std.proofs.Common.{sym, subst}
-use Rattle.tz_zone.specs.Compiles.{compiled_in, IsZoneFault}
+use Rattle.tz_lookup.specs.Compiles.{compiled_in, IsZoneFault}
 use Rattle.sefunjaro.specs.Sources.{table_in}
 use Rattle.sefunjaro_c.{specs.Faults.{zone_due, IsRefused}, proofs.FaultLemmas.{no_text, zone_refused}}
 use Rattle.sefunjaro_c.proofs.sources.zone_of.Goals as goal

@@ -1,7 +1,6 @@
 use Rattle.std.{proofs.Common.{◌≡◌, ℤ, inl, refl, subst}, specs.Arc.{arc_value}}
 use Rattle.sefunjaro.specs.{Answered.{AreReadings}, Any.{Seen}, declared.zone.AnyZone.{AnyZone}}
-use Rattle.sefunjaro_handles.specs.declared.opened.Opened.TheVariants.{Zone}
-use Rattle.sefunjaro_c.{specs.Answers.{OfClock}, proofs.AskedLemmas.{of_zone}}
+use Rattle.sefunjaro_c.{specs.{declared.opened.Opened.TheVariants.{Zone}, Answers.{OfClock}}, proofs.AskedLemmas.{of_zone}}
 use Rattle.sefunjaro_c.proofs.zones.all_readings.Goals as goal
 
 pub returns-in-Some-clause-answer : goal.returns-in-Some-clause-answer

@@ -1,8 +1,7 @@
 use Rattle.std.{proofs.Common.{◌≡◌, ◌∙◌, to_z-of_z, true, ap, subst}, specs.Arc.{arc_value}}
 use Rattle.civil_base.specs.DateTimes.{instant}
 use Rattle.sefunjaro.specs.{Answered.{IsInForce}, Any.{Seen}}
-use Rattle.sefunjaro_handles.specs.declared.opened.Opened.TheVariants.{Zone}
-use Rattle.sefunjaro_c.{specs.Answers.{Where}, specs.Times.{is_instant, nanos_at}, proofs.AskedLemmas.{of_zone, where_true}, proofs.ShownLemmas.{seen_map}}
+use Rattle.sefunjaro_c.{specs.{declared.opened.Opened.TheVariants.{Zone}, Answers.{Where}, Times.{is_instant, nanos_at}}, proofs.{AskedLemmas.{of_zone, where_true}, ShownLemmas.{seen_map}}}
 use Rattle.sefunjaro_c.proofs.zones.in_force.Goals as goal
 
 pub returns-in-Some-clause-answer : goal.returns-in-Some-clause-answer

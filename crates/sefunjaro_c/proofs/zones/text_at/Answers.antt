@@ -1,8 +1,7 @@
 use Rattle.std.{proofs.Common.{◌≡◌, ◌∙◌, to_z-of_z, ℤ, true, ap, subst}, specs.Arc.{arc_value}}
 use Rattle.civil_base.specs.DateTimes.{instant}
 use Rattle.sefunjaro.specs.{Any.{Seen}, declared.zone.AnyZone.{AnyZone}}
-use Rattle.sefunjaro_handles.specs.declared.opened.Opened.TheVariants.{Zone}
-use Rattle.sefunjaro_c.{specs.Answers.{is_shown, IsTextIn, Where, Within}, specs.Times.{is_instant, nanos_at}, proofs.AskedLemmas.{of_zone, within_true}}
+use Rattle.sefunjaro_c.{specs.{declared.opened.Opened.TheVariants.{Zone}, Answers.{is_shown, IsTextIn, Where, Within}, Times.{is_instant, nanos_at}}, proofs.AskedLemmas.{of_zone, within_true}}
 use Rattle.sefunjaro_c.proofs.zones.text_at.Goals as goal
 
 pub returns-in-Some-clause-answer : goal.returns-in-Some-clause-answer

@@ -4,8 +4,7 @@ use Rattle.basics.specs.SignedLaws.{signed}
 use Rattle.zone_spans.specs.Schedules.{total_at}
 use Rattle.tz_ever.{specs.{ZoneShown.{zone_set_of}, Unrolled.{next_seam_second}}, proofs.StretchLemmas.{first_begin, first_end, first_is}}
 use Rattle.tz_ever.proofs.stretch.first_stretch.Goals as goal
-use Rattle.tz_lookup.specs.{CompactShown.{seen}, Stretches.{IsStretch, stretch_begin, stretch_end}}
-use Rattle.tz_zone.specs.{Sets.{schedule_of}, declared.set.FixedTimespanSet.{FixedTimespanSet}}
+use Rattle.tz_lookup.specs.{CompactShown.{seen}, Stretches.{IsStretch, stretch_begin, stretch_end}, Sets.{schedule_of}, declared.set.FixedTimespanSet.{FixedTimespanSet}}
 
 pub returns-clause-is : goal.returns-clause-is
 returns-clause-is c =

@@ -1,7 +1,6 @@
 use Rattle.std.proofs.{Common.{neg_ℤ, pos, ◌≤ℤ◌, ◌∙◌, ap, sym, subst, w64}, lemmas.Int.{to_z-of_z}}
 use Rattle.zone_spans.specs.Schedules.{total_at}
-use Rattle.tz_lookup.specs.{CompactShown.{seen}, Stretches.{IsStretch, stretch_begin, stretch_end}}
-use Rattle.tz_zone.specs.{Sets.{schedule_of}, declared.set.FixedTimespanSet.{FixedTimespanSet}}
+use Rattle.tz_lookup.specs.{CompactShown.{seen}, Stretches.{IsStretch, stretch_begin, stretch_end}, Sets.{schedule_of}, declared.set.FixedTimespanSet.{FixedTimespanSet}}
 use Rattle.tz_ever.specs.{Ever.{ever_total}, RecurrenceLaws.{later_total, never_total}, Recurrences.{zone_total}, Stretches.{ever_begin, ever_end, zone_begin, zone_end}, ZoneShown.{recurrence_of, zone_set_of}}
 use Rattle.tz_ever.specs.declared.recurrence.Recurrence.TheVariants.{Always}
 use Rattle.tz_ever.proofs.stretch.zone_stretch.Goals as goal

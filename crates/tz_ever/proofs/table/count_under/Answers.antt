@@ -1,6 +1,6 @@
 use Rattle.std.proofs.{Common.{◌≡◌, ◌-ℤ◌, pos, to_z, of_z, w64, arith, subst}, lemmas.List.{length-map}}
 use Rattle.basics.specs.SignedLaws.{signed, signed_casts}
-use Rattle.tz_zone.specs.{Sets.{shift_of, shifts_of}, Spans.{IsCut}}
+use Rattle.tz_lookup.specs.{Sets.{shift_of, shifts_of}, Spans.{IsCut}}
 use Rattle.tz_ever.proofs.{TableLemmas.{count_is}, UnrolledShows.{least, past_greatest, set_climbs}}
 use Rattle.tz_ever.proofs.table.count_under.Goals as goal
 

@@ -1,7 +1,6 @@
 use Rattle.std.proofs.{Common.{ℤ, ◌≤ℤ◌, to_z, of_z, w64, SFits, rules, arith, ◌∙◌, subst}, lemmas.Int.{to_z-of_z}, lemmas.List.{length-map}}
 use Rattle.basics.specs.ComparisonLaws.{le_from_pass}
-use Rattle.tz_zone.specs.{Sets.{shift_of, shifts_of}, Spans.{shift_at}}
-use Rattle.tz_lookup.{specs.Years.{year_second}, proofs.YearCountLemmas.{cut_before}}
+use Rattle.tz_lookup.{specs.{Sets.{shift_of, shifts_of}, Spans.{shift_at}, Years.{year_second}}, proofs.YearCountLemmas.{cut_before}}
 use Rattle.tz_lookup.proofs.compact_set.entries_before.Goals as goal
 
 pub returns-then-time-start : goal.returns-then-time-start

@@ -1,5 +1,4 @@
-use Rattle.tz_zone.specs.Sets.{shifts_of}
-use Rattle.tz_lookup.specs.{YearCounts.{AreBefore}, Years.{year_second}}
+use Rattle.tz_lookup.specs.{Sets.{shifts_of}, YearCounts.{AreBefore}, Years.{year_second}}
 use Rattle.tz_lookup.proofs.compact_set.entries_before.Given as goal
 
 -- the entries so far lie before the year

@@ -1,6 +1,5 @@
 use Rattle.std.proofs.{Common.{arith, ◌+◌, length, get_or, pos, ◌-ℤ◌, sym, ap, ◌∙◌, subst}, lemmas.List.{length_push, length-map}}
-use Rattle.tz_zone.specs.{Sets.{shift_of, shifts_of}, Spans.{IsCut}}
-use Rattle.tz_lookup.{specs.Years.{year_second}, proofs.YearCountLemmas.{counts_more, before_next}}
+use Rattle.tz_lookup.{specs.{Sets.{shift_of, shifts_of}, Spans.{IsCut}, Years.{year_second}}, proofs.YearCountLemmas.{counts_more, before_next}}
 use Rattle.tz_lookup.proofs.compact_set.year_counts.Goals as goal
 
 pub loop-place-preserved : goal.loop-place-preserved

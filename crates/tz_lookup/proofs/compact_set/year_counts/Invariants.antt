@@ -1,6 +1,5 @@
 use Rattle.std.proofs.Common.{◌≡◌, ◌<◌, ◌≤◌, ◌<ℤ◌, ℕ, length, get_or, pos, ◌-ℤ◌}
-use Rattle.tz_zone.specs.{Sets.{shifts_of}, Spans.{shift_at, IsCut}}
-use Rattle.tz_lookup.specs.Years.{year_second}
+use Rattle.tz_lookup.specs.{Sets.{shifts_of}, Spans.{shift_at, IsCut}, Years.{year_second}}
 use Rattle.tz_lookup.proofs.compact_set.year_counts.Given as goal
 
 -- the counts before the years so far

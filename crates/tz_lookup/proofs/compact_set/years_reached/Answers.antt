@@ -1,6 +1,5 @@
 use Rattle.std.proofs.{Common.{◌≡◌, ◌-◌, suc, length, w64, SFits, rules, arith, ◌∙◌, subst}, lemmas.Int.{to_z-of_z}, lemmas.List.{length-map}}
-use Rattle.tz_zone.specs.Sets.{shift_of, shifts_of}
-use Rattle.tz_lookup.{specs.Years.{HaveBegun}, proofs.YearCountLemmas.{all_before}}
+use Rattle.tz_lookup.{specs.{Sets.{shift_of, shifts_of}, Years.{HaveBegun}}, proofs.YearCountLemmas.{all_before}}
 use Rattle.tz_lookup.proofs.compact_set.years_reached.Goals as goal
 
 pub returns-else-count-eq0-clause-later : goal.returns-else-count-eq0-clause-later

@@ -1,6 +1,5 @@
 use Rattle.std.proofs.Common.{ap, ◌∙◌, subst}
-use Rattle.tz_zone.specs.Compiles.{compiled_in, IsZoneFault}
-use Rattle.tz_lookup.{specs.Databases.{found_as}, proofs.DatabaseLemmas.{found_is, bad_schedule, bad_offset}}
+use Rattle.tz_lookup.{specs.{Compiles.{compiled_in, IsZoneFault}, Databases.{found_as}}, proofs.DatabaseLemmas.{found_is, bad_schedule, bad_offset}}
 use Rattle.tz_lookup.proofs.database.know.Goals as goal
 
 pub returns-in-Ok-clause-ok : goal.returns-in-Ok-clause-ok

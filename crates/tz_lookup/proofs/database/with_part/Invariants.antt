@@ -1,7 +1,6 @@
 use Rattle.std.{proofs.Common.{◌≡◌, map, take}, specs.Prelude.{filter}}
-use Rattle.tz_lookup.specs.Databases.{has_part}
+use Rattle.tz_lookup.specs.{Databases.{has_part}, Zones.{set_of}}
 use Rattle.tz_lookup.proofs.database.with_part.Given as goal
-use Rattle.tz_zone.specs.Zones.{set_of}
 
 -- those of the zones so far
 abbrev pub invariant-loop-known : goal.invariant-loop-known

@@ -1,6 +1,6 @@
 use Rattle.std.proofs.{Common.{◌<ℤ◌, w64, SFits, rules, ◌∙◌, sym, subst, arith}, lemmas.Int.{to_z-of_z}, lemmas.List.{length-map}}
 use Rattle.basics.specs.ComparisonLaws.{lt_le}
-use Rattle.tz_zone.specs.Sets.{shift_of}
+use Rattle.tz_lookup.specs.Sets.{shift_of}
 use Rattle.tz_lookup.proofs.stretch.span_end.Goals as goal
 
 pub returns-then-span-entry_count-clause-lasts : goal.returns-then-span-entry_count-clause-lasts

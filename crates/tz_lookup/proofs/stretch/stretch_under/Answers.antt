@@ -1,6 +1,5 @@
 use Rattle.std.proofs.{Common.{ap, ◌≤ℤ◌, ◌<ℤ◌, SFits, rules, sym, ◌∙◌, subst, w32, w64, arith}, lemmas.Int.{ints, to_z-of_z}}
-use Rattle.tz_zone.specs.{Sets.{schedule_of, shifts_of}, Spans.{IsCut}}
-use Rattle.tz_lookup.{specs.{CompactShown.{seen}, Stretches.{stretch_begin, stretch_end}}, proofs.StretchLemmas.{at_second, begins_there, ends_there}}
+use Rattle.tz_lookup.{specs.{Sets.{schedule_of, shifts_of}, Spans.{IsCut}, CompactShown.{seen}, Stretches.{stretch_begin, stretch_end}}, proofs.StretchLemmas.{at_second, begins_there, ends_there}}
 use Rattle.tz_lookup.proofs.stretch.stretch_under.Goals as goal
 
 pub returns-clause-is : goal.returns-clause-is

@@ -1,7 +1,7 @@
 -- The totals of a zone beside those of its changes alone.
 use Rattle.std.proofs.{Common.{◌≡◌, ℤ, pos, ◌*ℤ◌, int_le, Bool, true, false, cond, Some, None, filter, sym, ap, ◌∙◌, arith}, lemmas.Int.{ints}}
 use Rattle.civil_base.specs.Instants.{seconds_of}
-use Rattle.tz_zone.specs.SecondLaws.{IsSecond, second_is}
+use Rattle.tz_lookup.specs.SecondLaws.{IsSecond, second_is}
 use Rattle.tz_tzif.specs.{FooterForce.{FooterZone, held_at}, InForce.{are_over, changed_kind, kind_in, kind_at, told_total_at}}
 use Rattle.tz_tzif.proofs.laws.file_totals.Goals as goal
 use Rattle.zone_tzif_core.specs.{Totals.{last_kind, file_total_at}, Zones.{KindValue, ZoneValue}}

@@ -1,7 +1,7 @@
 use Rattle.std.proofs.{Common.{◌≡◌, List, [], map, option_map, ℤ, FitsSigned, w64, to_z, of_z, to_z-of_z, rules, sym, ap, ◌∙◌, subst, arith}, lemmas.Int.{ints}}
 use Rattle.basics.specs.{ComparisonLaws.{lt_from_pass}, SignedLaws.{signed}}
 use Rattle.zone_spans.specs.Entries.{Entry, total}
-use Rattle.tz_zone.specs.Sets.{IsSpanTime, shift_of}
+use Rattle.tz_lookup.specs.Sets.{IsSpanTime, shift_of}
 use Rattle.zone_tzif_core.specs.ZoneFiles.{zone_seen}
 use Rattle.tz_tzif.{specs.{FooterShown.{footer_shown}, InForce.{kind_in}, Opened.{span_of}, Walks.{AreBefore, AreShifts, Tells}}, proofs.SpanLemmas.{before_more, nearer, no_shifts, shifts_more, shifts_of_more, told_first, told_more}}
 use Rattle.tz_tzif.proofs.spans.entries_over.Goals as goal

@@ -1,6 +1,6 @@
 use Rattle.std.proofs.Common.{map, option_map, ◌-ℤ◌, ◌<ℤ◌}
 use borrow.Author.Differences.{up}
-use Rattle.tz_zone.specs.Sets.{shift_of}
+use Rattle.tz_lookup.specs.Sets.{shift_of}
 use Rattle.zone_tzif_core.specs.ZoneFiles.{zone_seen}
 use Rattle.tz_tzif.specs.{FooterShown.{footer_shown}, InForce.{kind_in}, Opened.{span_of}, Walks.{AreBefore, AreShifts, Tells}}
 use Rattle.tz_tzif.proofs.spans.entries_over.Given as goal

@@ -1,7 +1,7 @@
 use Rattle.std.proofs.Common.{◌≡◌, ◌&&◌, List, map, option_map, ℤ, w64, to_z, of_z, to_z-of_z, sym, ap, ◌∙◌, subst}
 use Rattle.std.specs.List.{list_all}
 use Rattle.civil_base.specs.Ranges.{is_offset}
-use Rattle.tz_zone.specs.{Sets.{shift_of}, Spans.{Shift}}
+use Rattle.tz_lookup.specs.{Sets.{shift_of}, Spans.{Shift}}
 use Rattle.zone_tzif_core.specs.ZoneFiles.{zone_seen}
 use Rattle.tz_tzif.specs.{FooterShown.{footer_shown}, InForce.{kind_in}, Opened.{span_of}, Walks.{Tells}}
 use Rattle.tz_tzif.proofs.spans.set_over.Goals as goal

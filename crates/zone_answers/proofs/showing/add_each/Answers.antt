@@ -1,7 +1,6 @@
 use Rattle.std.proofs.{Common.{ap, arith, length, map, take, rules, subst, sym, ◌∙◌}, lemmas.List.{take_all}}
 use Rattle.civil_base.specs.Layout.{local_text}
-use Rattle.tz_zone.specs.AllLeft.{all_left}
-use Rattle.tz_lookup.specs.InForce.{shown_of}
+use Rattle.tz_lookup.specs.{AllLeft.{all_left}, InForce.{shown_of}}
 use Rattle.zone_answers.proofs.ShowingLemmas.{AreAt, all_at}
 use Rattle.zone_answers.proofs.showing.add_each.Goals as goal
 

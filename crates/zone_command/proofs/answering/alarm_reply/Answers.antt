@@ -1,6 +1,6 @@
 use Rattle.zone_command.proofs.AnswerLemmas.{answered}
 use Rattle.zone_command.proofs.answering.alarm_reply.Goals as goal
-use Rattle.zone_displays.specs.Rings.{rings_due}
+use Rattle.zone_texts.specs.Rings.{rings_due}
 use Rattle.zone_words.specs.TaskShown.{alarm_shown}
 
 pub returns : goal.returns

@@ -2,7 +2,7 @@ use Rattle.std.proofs.Common.{[], map}
 use Rattle.civil_base.specs.DateTimes.{instant}
 use Rattle.zone_command.{specs.Replies.{at_lines, instants_at}, proofs.AnswerLemmas.{answered}}
 use Rattle.zone_command.proofs.answering.at_reply.Goals as goal
-use Rattle.zone_moments.specs.Shown.{asked}
+use Rattle.zone_words.specs.TimesShown.{asked}
 
 pub returns : goal.returns
 returns g c =

@@ -1,7 +1,7 @@
 use Rattle.std.proofs.Common.{◌≡◌, List, ℕ, Err, OnOk, map, refl, subst, sym}
 use Rattle.zone_command.{specs.Named.{named_in, named_view}, specs.Refusals.{IsTold}, specs.Replies.{IsStep}, proofs.ChartLemmas.{pushed, refused}, proofs.charts.add_charted.Goals.{in-Ok-push, in-Err}}
 use Rattle.zone_command.proofs.charts.add_charted.Goals as goal
-use Rattle.zone_displays.specs.SeenZones.{named}
+use Rattle.zone_texts.specs.SeenZones.{named}
 
 pub returns-in-Err-Why-clause-err : goal.returns-in-Err-Why-clause-err
 returns-in-Err-Why-clause-err g c = λ before others.

@@ -1,7 +1,7 @@
 use Rattle.std.proofs.Common.{Ok, ap, map, sym, ◌∙◌}
 use Rattle.zone_command.{specs.Named.{named_view}, proofs.ChartLemmas.{charted_as}}
 use Rattle.zone_command.proofs.charts.chart_reply.Goals as goal
-use Rattle.zone_displays.specs.SeenZones.{named}
+use Rattle.zone_texts.specs.SeenZones.{named}
 use Rattle.zone_words.specs.Shown.{word_shown}
 
 pub returns : goal.returns

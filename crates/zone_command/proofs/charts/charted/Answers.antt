@@ -1,7 +1,7 @@
 use Rattle.std.{proofs.Common.{◌≡◌, ℕ, ◌+◌, ◌<◌, List, [], ◌∷◌, Bor, length, slice_index_or, ap, drop, map, sym, ◌∙◌}, proofs.lemmas.List.{at_drop_more, drop_all}, specs.Prelude.{Result, Err, Vec}, specs.declared.alloc.Global.{Global}}
 use Rattle.zone_command.{specs.Named.{Found, named_view}, specs.Replies.{behind_found, named_zones}, proofs.ChartLemmas.{ended}}
 use Rattle.zone_command.proofs.charts.charted.Goals as goal
-use Rattle.zone_displays.specs.SeenZones.{Named, named}
+use Rattle.zone_texts.specs.SeenZones.{Named, named}
 use Rattle.zone_words.specs.Shown.{word_shown}
 
 -- the next name and those left after it

@@ -1,7 +1,7 @@
 use Rattle.std.proofs.Common.{◌≡◌, drop, map}
 use Rattle.zone_command.specs.{Named.{named_view}, Replies.{behind_found, named_zones}}
 use Rattle.zone_command.proofs.charts.charted.Given as goal
-use Rattle.zone_displays.specs.SeenZones.{named}
+use Rattle.zone_texts.specs.SeenZones.{named}
 use Rattle.zone_words.specs.Shown.{word_shown}
 
 -- the zones so far, and those of the names left, are those of all names

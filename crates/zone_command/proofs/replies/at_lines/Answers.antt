@@ -1,7 +1,7 @@
 use Rattle.std.proofs.{Common.{◌≡◌, ℕ, ◌+◌, ◌<◌, List, length, map, drop, slice_index_or, ℤ, Ok, Err, ap, sym, ◌∙◌}, lemmas.List.{at_drop_all, at_drop_more}}
 use Rattle.civil_base.specs.DateTimes.{instant}
-use Rattle.zone_moments.specs.{Shown.{asked}, declared.answer_form.AnswerForm.{AnswerForm}, declared.instant.Asked.{Asked}}
-use Rattle.zone_replies.specs.{Faults.{Due, behind}, Instants.{line_due}, Views.{ZoneView}, declared.fault.ReplyFault.{ReplyFault}}
+use Rattle.zone_words.specs.{TimesShown.{asked}, declared.answer_form.AnswerForm.{AnswerForm}, declared.instant.Asked.{Asked}}
+use Rattle.zone_texts.specs.{Faults.{Due, behind}, Instants.{line_due}, Views.{ZoneView}, declared.fault.ReplyFault.{ReplyFault}}
 use Rattle.zone_command.specs.{Answers.{◌>>=◌}, Replies.{at_lines, instant_at, instants_at}}
 use Rattle.zone_command.proofs.replies.at_lines.Goals as goal
 

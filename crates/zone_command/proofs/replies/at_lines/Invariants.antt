@@ -1,6 +1,6 @@
 use Rattle.std.proofs.Common.{◌≡◌, [], drop, map}
 use Rattle.civil_base.specs.DateTimes.{instant}
-use Rattle.zone_moments.specs.Shown.{asked}
+use Rattle.zone_words.specs.TimesShown.{asked}
 use Rattle.zone_command.specs.Replies.{at_lines, instants_at}
 use Rattle.zone_command.proofs.replies.at_lines.Given as goal
 

@@ -1,5 +1,5 @@
 use Rattle.std.proofs.Common.{◌≡◌, ℕ, ◌++◌, List, map, ℤ}
-use Rattle.tz_zone.specs.declared.set.FixedTimespanSet.{FixedTimespanSet}
+use Rattle.tz_lookup.specs.declared.set.FixedTimespanSet.{FixedTimespanSet}
 use Rattle.zone_list.{specs.Ranges.{all_have_dates}, specs.Rows.{row}, specs.Windows.{window}, proofs.StepLemmas.{left}}
 use Rattle.zone_list.proofs.listing.list_window.Given as goal
 

@@ -1,5 +1,5 @@
 use Rattle.std.proofs.{Common.{refl}, lemmas.Result.{IfOk-weaker}}
-use Rattle.zone_values.specs.Values.{rule_value}
+use Rattle.zone_table.specs.Values.{rule_value}
 use Rattle.zone_plain.proofs.NameLemmas.{nothing_more, zone_more, rule_more, link_more}
 use Rattle.zone_plain.proofs.links.declare.Goals as goal
 

@@ -1,5 +1,5 @@
 use Rattle.std.proofs.{Common.{◌≤◌, map, length, subst, arith}, lemmas.List.{length-map, take_all}}
-use Rattle.zone_values.specs.Values.{line_value}
+use Rattle.zone_table.specs.Values.{line_value}
 use Rattle.zone_plain.{specs.Stands.{IsDeclared}, proofs.NameLemmas.{one_line_more}}
 use Rattle.zone_plain.proofs.links.declared_by.Goals as goal
 

@@ -1,5 +1,5 @@
 use Rattle.std.proofs.Common.{map, take}
-use Rattle.zone_values.specs.Values.{line_value}
+use Rattle.zone_table.specs.Values.{line_value}
 use Rattle.zone_plain.specs.Stands.{IsDeclared}
 use Rattle.zone_plain.proofs.links.declared_by.Given as goal
 

@@ -1,7 +1,7 @@
 use Rattle.std.proofs.Common.{List}
 use denote.Text.{Utf8}
 use denote.Shadow.{shadow}
-use Rattle.zone_values.specs.Values.{LineValue}
+use Rattle.zone_table.specs.Values.{LineValue}
 use Rattle.zone_plain.specs.Stands.{names_of, IsDeclared, IsKnown, LeadsTo}
 use Rattle.zone_plain.proofs.links.keep.Given as goal
 

@@ -1,7 +1,7 @@
 use Rattle.std.proofs.Common.{sym, ◌∙◌, ap, subst, Some}
 use Rattle.zone_plain.{specs.Settled.{link_after}, proofs.LinkLemmas.{none_before, same_before}}
 use Rattle.zone_plain.proofs.links.link_place.Goals as goal
-use Rattle.zone_plain_base.specs.Told.{IsRefused}
+use Rattle.zone_plain_lines.specs.Told.{IsRefused}
 
 pub returns-in-Some-true-clause-ok : goal.returns-in-Some-true-clause-ok
 returns-in-Some-true-clause-ok c values before here =

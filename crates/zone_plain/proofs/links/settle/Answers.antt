@@ -1,5 +1,5 @@
 use Rattle.std.proofs.{Common.{map, length, sym}, lemmas.List.{length-map}}
-use Rattle.zone_values.specs.Values.{line_value}
+use Rattle.zone_table.specs.Values.{line_value}
 use Rattle.zone_plain.proofs.links.settle.Goals as goal
 
 pub settle_each-requires : goal.settle_each-requires

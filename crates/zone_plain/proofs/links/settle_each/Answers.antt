@@ -1,8 +1,8 @@
 use Rattle.std.proofs.{Common.{◌<◌, ◌≤◌, ◌∙◌, ◌≡◌, ◌+◌, ◌++◌, ◌∷◌, [], true, nat_lt, map, length, arith, sym, ap, take, subst}, lemmas.List.{length-map, map-append}}
-use Rattle.zone_values.specs.Values.{line_value}
+use Rattle.zone_table.specs.Values.{line_value}
 use Rattle.zone_plain.{specs.Settled.{settled, settled_line}, specs.Stands.{IsAt}, proofs.StageLemmas.{Settling, line_at, still_small, large_now, nothing_settled, one_settled, refused_here, too_long_here, all_settled, size_is_small}}
 use Rattle.zone_plain.proofs.links.settle_each.Goals as goal
-use Rattle.zone_plain_base.specs.{Told.{IsRefused}, LineFaults.{IsFaultOf}}
+use Rattle.zone_plain_lines.specs.{Told.{IsRefused}, LineFaults.{IsFaultOf}}
 
 pub loop-place-init : goal.loop-place-init
 loop-place-init c = rw c.new-led.ensures.items (nothing_settled _ _ _ _ c.requires)

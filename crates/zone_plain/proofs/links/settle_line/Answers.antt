@@ -1,6 +1,6 @@
 use Rattle.std.proofs.{Common.{List, sym, ◌∙◌, refl, subst}, lemmas.Result.{IfOk-weaker, IfErr-weaker}}
-use Rattle.zone_plain_base.specs.Told.{IsRefused}
-use Rattle.zone_values.specs.Values.{LineValue}
+use Rattle.zone_plain_lines.specs.Told.{IsRefused}
+use Rattle.zone_table.specs.Values.{LineValue}
 use Rattle.zone_plain.{specs.Settled.{settled_link}, specs.Stands.{IsAt}, proofs.LinkLemmas.{space_stays, rule_stays, continuation_lacks, continuation_stays, plain_more, link_is}}
 use Rattle.zone_plain.proofs.links.settle_line.Goals as goal
 

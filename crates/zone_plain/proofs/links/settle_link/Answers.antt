@@ -1,7 +1,7 @@
 use Rattle.std.{proofs.Common.{sym, ◌∙◌, ap, map}, specs.Prelude.{Ok}}
 use Rattle.zone_plain.{specs.Stands.{line_at_place}, proofs.LinkLemmas.{is_declared, link_is_zone, link_refused, link_unsaid, link_said, link_text}}
 use Rattle.zone_plain.proofs.links.settle_link.Goals as goal
-use Rattle.zone_values.specs.Values.{line_value}
+use Rattle.zone_table.specs.Values.{line_value}
 
 pub returns-then-contains_key-clause-err : goal.returns-then-contains_key-clause-err
 returns-then-contains_key-clause-err c values before here =

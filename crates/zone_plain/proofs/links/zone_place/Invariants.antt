@@ -1,7 +1,7 @@
 use Rattle.std.proofs.Common.{List}
 use denote.Text.{Utf8}
 use denote.Shadow.{shadow}
-use Rattle.zone_values.specs.Values.{LineValue}
+use Rattle.zone_table.specs.Values.{LineValue}
 use Rattle.zone_plain.{specs.Stands.{IsDeclared}, proofs.LeadLemmas.{AreSteps}}
 use Rattle.zone_plain.proofs.links.zone_place.Given as goal
 

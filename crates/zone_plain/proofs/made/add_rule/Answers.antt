@@ -1,5 +1,5 @@
 use Rattle.std.{proofs.Common.{◌∙◌, sym, ap, to_z-of_z, Some, None, rules, FitsSigned, w64}, proofs.lemmas.Result.{IfOk-weaker}, specs.Prelude.{if◌then◌else◌}}
-use Rattle.zone_values.specs.Values.{rule_value}
+use Rattle.zone_table.specs.Values.{rule_value}
 use Rattle.zone_plain.{specs.OffsetTexts.{offset_text, has_text}, specs.Made.{total_of}, proofs.RuleLemmas.{no_total, total_has_text, rule_unsaid, rule_added}}
 use Rattle.zone_plain.proofs.made.add_rule.Goals as goal
 

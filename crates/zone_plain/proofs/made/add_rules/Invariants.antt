@@ -1,5 +1,5 @@
 use Rattle.std.proofs.Common.{map}
-use Rattle.zone_values.specs.Values.{line_value}
+use Rattle.zone_table.specs.Values.{line_value}
 use Rattle.zone_plain.{specs.ToldOffsets.{value_in}, proofs.MadeLemmas.{HasMade}}
 use Rattle.zone_plain.proofs.made.add_rules.Given as goal
 

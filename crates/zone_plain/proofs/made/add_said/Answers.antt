@@ -1,5 +1,5 @@
 use Rattle.std.proofs.Common.{sym, ◌∙◌}
-use Rattle.zone_values.specs.Values.{line_value}
+use Rattle.zone_table.specs.Values.{line_value}
 use Rattle.zone_plain.proofs.RuleLemmas.{said_and_added, unsaid}
 use Rattle.zone_plain.proofs.made.add_said.Goals as goal
 

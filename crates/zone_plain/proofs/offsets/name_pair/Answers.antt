@@ -1,5 +1,5 @@
 use Rattle.std.proofs.Common.{◌∙◌, sym, ap, map}
-use Rattle.zone_values.specs.Values.{line_value}
+use Rattle.zone_table.specs.Values.{line_value}
 use Rattle.zone_plain.{specs.MadeNames.{made_name}, specs.Shown.{pair_shown}, proofs.PairLemmas.{number_with}, proofs.RuleLemmas.{known_rules, new_added}}
 use Rattle.zone_plain.proofs.offsets.name_pair.Goals as goal
 

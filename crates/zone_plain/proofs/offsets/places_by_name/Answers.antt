@@ -1,5 +1,5 @@
 use Rattle.std.proofs.Common.{◌<◌, ◌≤◌, map, length, arith}
-use Rattle.zone_values.specs.Values.{line_value}
+use Rattle.zone_table.specs.Values.{line_value}
 use Rattle.zone_plain.proofs.{MadeNameLemmas.{length_read}, GroupLemmas.{nothing_grouped, one_grouped, all_grouped}}
 use Rattle.zone_plain.proofs.offsets.places_by_name.Goals as goal
 

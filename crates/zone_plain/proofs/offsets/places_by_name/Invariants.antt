@@ -1,5 +1,5 @@
 use Rattle.std.proofs.Common.{map}
-use Rattle.zone_values.specs.Values.{line_value}
+use Rattle.zone_table.specs.Values.{line_value}
 use Rattle.zone_plain.proofs.GroupLemmas.{HasGrouped}
 use Rattle.zone_plain.proofs.offsets.places_by_name.Given as goal
 

@@ -1,5 +1,5 @@
 use Rattle.std.proofs.{Common.{◌∙◌, sym, map, refl, rules, to_z-of_z, FitsSigned, w64}, lemmas.Result.{IfOk-weaker}}
-use Rattle.zone_values.specs.Values.{line_value}
+use Rattle.zone_table.specs.Values.{line_value}
 use Rattle.zone_plain.{specs.Shown.{parts_shown, pair_shown, text_in}, proofs.OutLemmas.{out_total_at, out_under, out_of_same}}
 use Rattle.zone_plain.proofs.offsets.write_line.Goals as goal
 

@@ -1,5 +1,5 @@
 use Rattle.std.proofs.Common.{◌∙◌, ◌++◌, ◌<◌, ◌≤◌, map, length, sym, ap, subst, arith}
-use Rattle.zone_values.specs.Values.{line_value}
+use Rattle.zone_table.specs.Values.{line_value}
 use Rattle.zone_plain.{specs.WrittenOut.{IsWrittenAs}, proofs.MadeNameLemmas.{length_read}, proofs.OffsetStageLemmas.{one_reached, unsaid_at, too_long_at, all_reached}}
 use Rattle.zone_plain.proofs.offsets.write_lines.Goals as goal
 

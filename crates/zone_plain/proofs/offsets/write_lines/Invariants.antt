@@ -1,6 +1,6 @@
 use Rattle.std.proofs.Common.{◌+◌, map, drop}
 use Rattle.zone_outside.specs.Limit.{text_limit}
-use Rattle.zone_values.specs.Values.{line_value}
+use Rattle.zone_table.specs.Values.{line_value}
 use Rattle.zone_plain.{specs.Shown.{text_in}, proofs.OffsetStageLemmas.{HasWritten}}
 use Rattle.zone_plain.proofs.offsets.write_lines.Given as goal
 

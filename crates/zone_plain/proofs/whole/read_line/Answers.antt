@@ -1,6 +1,6 @@
 use Rattle.std.proofs.Common.{refl, sym, ◌∙◌}
-use Rattle.zone_values.specs.Values.{line_value}
-use Rattle.zone_plain_base.specs.Renamed.{renamed}
+use Rattle.zone_table.specs.Values.{line_value}
+use Rattle.zone_plain_lines.specs.Renamed.{renamed}
 use Rattle.zone_plain.proofs.LineLemmas.{told_refused, unsaid, none_behind}
 use Rattle.zone_plain.proofs.whole.read_line.Goals as goal
 

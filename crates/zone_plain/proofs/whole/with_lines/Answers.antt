@@ -1,5 +1,5 @@
 use Rattle.std.proofs.Common.{◌<◌, ◌≤◌, ◌∙◌, ◌++◌, map, length, arith, sym, ap}
-use Rattle.zone_values.specs.Values.{line_value}
+use Rattle.zone_table.specs.Values.{line_value}
 use Rattle.zone_plain.{specs.Plain.{if_short}, proofs.PlainLemmas.{all_written, past_limit, in_limit}}
 use Rattle.zone_plain.proofs.whole.with_lines.Goals as goal
 

@@ -1,4 +1,4 @@
-use Rattle.zone_values.specs.Values.{line_value}
+use Rattle.zone_table.specs.Values.{line_value}
 use Rattle.zone_source.proofs.JoinLemmas.{taken}
 use Rattle.zone_source.proofs.table.join_line.Goals as goal
 

@@ -1,7 +1,6 @@
 use Rattle.std.proofs.{Common.{◌≡◌, true, ◌&&◌, ◌∷◌, ◌++◌, [], ap, sym, subst, ◌∙◌, arith, add-one, refl, length, map}, lemmas.List.{append_assoc, append-nil}, lemmas.List.Folds.{list_all-append}, lemmas.List.Sums.{AllPass-from_list_all}}
 use Rattle.std.proofs.lemmas.Result.{err_from_is_err_and}
-use Rattle.zone_values.specs.Bounds.{is_bounded_line}
-use Rattle.zone_table.specs.Tables.{IsTableOf}
+use Rattle.zone_table.specs.{LineBounds.{is_bounded_line}, Tables.{IsTableOf}}
 use Rattle.zone_source.{specs.LinesLeft.{lines_left}, specs.Faults.{source_fault, first_line_refused}, specs.Zones.{source_value, values_of}, proofs.JoinLemmas.{first_later, told_first}}
 use Rattle.zone_source.proofs.table.read_table.Goals as goal
 

@@ -1,5 +1,5 @@
 use Rattle.std.proofs.{Common.{Option, IsTrue, sym, ap, ◌∙◌, subst, rules, w64, SFits}, lemmas.Int.{to_z-of_z}}
-use Rattle.zone_values.specs.{Bounds.{are_small_seconds}, declared.change.ChangeTime.{ChangeTime}}
+use Rattle.zone_table.specs.{LineBounds.{are_small_seconds}, declared.change.ChangeTime.{ChangeTime}}
 use Rattle.zone_spans.{specs.Bounds.{is_end}, specs.Lines.{Line}, proofs.SoundLemmas.{bounded_offset}}
 use Rattle.zone_spans.proofs.entries.next_start.Goals as goal
 

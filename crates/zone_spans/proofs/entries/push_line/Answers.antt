@@ -1,5 +1,5 @@
 use Rattle.std.proofs.{Common.{◌++◌, List, map, IsTrue, sym, ap, ◌∙◌, subst, rules, w64, SFits}, lemmas.Int.{to_z-of_z}}
-use Rattle.zone_values.specs.Bounds.{are_small_seconds}
+use Rattle.zone_table.specs.LineBounds.{are_small_seconds}
 use Rattle.zone_spans.{specs.Entries.{entry_of, start_entry}, specs.Firings.{Firing}, specs.Listing.{listed_firings}, proofs.EntryLemmas.{bounded_ruled, bounded_unruled, ruled_entries}, proofs.SoundLemmas.{bounded_saving, sound_end}}
 use Rattle.zone_spans.proofs.entries.push_line.Goals as goal
 

@@ -1,6 +1,5 @@
 use Rattle.std.{proofs.Common.{true, false, List, Option, IsTrue, sym, ap, ◌∙◌, subst}, specs.List.{list_all}, specs.Option.{option_map_or}}
-use Rattle.zone_values.specs.{Days.{has_day_of_month}, Ends.{end_day}, declared.change.ChangeTime.{ChangeTime}}
-use Rattle.zone_table.specs.{Bounds.{is_bounded_rule}, declared.rule.RuleInfo.{RuleInfo}}
+use Rattle.zone_table.specs.{Days.{has_day_of_month}, Ends.{end_day}, declared.change.ChangeTime.{ChangeTime}, Bounds.{is_bounded_rule}, declared.rule.RuleInfo.{RuleInfo}}
 use Rattle.zone_spans.{specs.Bounds.{is_end}, specs.Faults.{ends_outside}, specs.Lines.{Line}, proofs.SoundLemmas.{bounded_day, bounded_rules, end_dated}}
 use Rattle.zone_spans.proofs.fault.leaves_year.Goals as goal
 

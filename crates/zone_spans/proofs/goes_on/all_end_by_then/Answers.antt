@@ -1,5 +1,5 @@
 use Rattle.std.proofs.Common.{Option, IsTrue, sym, ap, subst, arith}
-use Rattle.zone_values.specs.declared.change.ChangeTime.{ChangeTime}
+use Rattle.zone_table.specs.declared.change.ChangeTime.{ChangeTime}
 use Rattle.zone_spans.{specs.Bounds.{IsSoundOver, is_end}, specs.Lines.{Line}, proofs.SoundLemmas.{sound_end}}
 use Rattle.zone_spans.proofs.goes_on.all_end_by_then.Goals as goal
 

@@ -1,5 +1,5 @@
 use Rattle.std.proofs.{Common.{Option, Some, sym, ap, ◌∙◌, subst, pos, rules, to_z, of_z, w64, SFits}, lemmas.Int.{to_z-of_z}}
-use Rattle.zone_values.specs.declared.change.ChangeTime.{ChangeTime}
+use Rattle.zone_table.specs.declared.change.ChangeTime.{ChangeTime}
 use Rattle.zone_spans.{specs.Kept.{IsLimit}, specs.Windows.{line_end}, proofs.KeptLemmas.{is_limit}}
 use Rattle.zone_spans.proofs.kept.limit_of.Goals as goal
 

@@ -1,5 +1,5 @@
 use Rattle.std.{proofs.Common.{length, None, ap, ◌∙◌, subst, sym}, specs.List.{list_all}}
-use Rattle.zone_values.specs.Bounds.{are_small_seconds}
+use Rattle.zone_table.specs.LineBounds.{are_small_seconds}
 use Rattle.zone_spans.{specs.Bounds.{is_bounded_firing}, specs.Cuts.{IsCut}, proofs.GoesOnLemmas.{cut_of, no_saving, none_fired}}
 use Rattle.zone_spans.proofs.turns.fire_cycle.Goals as goal
 

@@ -1,5 +1,5 @@
 use Rattle.std.proofs.{Common.{IsTrue, sym, ◌∙◌, subst, rules, w64, SFits}, lemmas.Int.{to_z-of_z}}
-use Rattle.zone_values.specs.Bounds.{are_small_seconds}
+use Rattle.zone_table.specs.LineBounds.{are_small_seconds}
 use Rattle.zone_spans.proofs.SoundLemmas.{bounded_saving, sound_end}
 use Rattle.zone_spans.proofs.turns.next_start_of.Goals as goal
 

@@ -1,5 +1,5 @@
 use Rattle.std.proofs.Common.{List, slice_index_or, pos, w64, to_z-of_z, FitsSigned, rules, sym, subst}
-use Rattle.tz_zone.specs.Sets.{schedule_of}
+use Rattle.tz_lookup.specs.Sets.{schedule_of}
 use Rattle.zone_tail.{specs.Choices.{IsChoice}, specs.Ready.{IsChosen}, specs.declared.candidate.Candidate.{Candidate}, specs.declared.candidate.Candidate.TheVariants.{Fixed}, proofs.ReadyLemmas.{is_chosen}}
 use Rattle.zone_tail.proofs.call.chosen.Goals as goal
 

@@ -1,5 +1,5 @@
 use Rattle.std.proofs.Common.{sym, subst}
-use Rattle.tz_zone.specs.Sets.{schedule_of}
+use Rattle.tz_lookup.specs.Sets.{schedule_of}
 use Rattle.zone_tail.{specs.Agreement.{Agrees}, specs.Candidates.{IsAllowed}, specs.LastYear.{form}, specs.Tails.{end_of_last_year, names_of}, proofs.CarryLemmas.{carries_on}}
 use Rattle.zone_tail.proofs.call.tail_of.Goals as goal
 

@@ -1,6 +1,6 @@
 use Rattle.std.proofs.Common.{◌≡◌, ℕ, suc, ◌+◌, ◌≤◌, length, ℤ, ◌+ℤ◌, ◌≤ℤ◌, ◌<ℤ◌, w64, to_z, of_z, to_z-of_z, FitsSigned, rules, IfOk, sym, ap, subst, ◌∙◌, arith}
 use Rattle.zone_spans.specs.Entries.{total}
-use Rattle.tz_zone.specs.{Sets.{total_of_span}, declared.set.FixedTimespanSet.{FixedTimespanSet}}
+use Rattle.tz_lookup.specs.{Sets.{total_of_span}, declared.set.FixedTimespanSet.{FixedTimespanSet}}
 use Rattle.zone_tail.specs.{Changes.{changes_at}, LastYear.{standard_of, year_begin, year_end}, Shapes.{entry_in}, Tails.{rules_with}}
 use Rattle.zone_tail.proofs.ReadyLemmas.{end_high, end_inside, end_low, start_high, start_inside, start_low, total_of_span-is, yearly_list}
 use Rattle.zone_tail.proofs.candidates.yearly_candidates.Goals as goal

@@ -1,5 +1,5 @@
 use Rattle.std.proofs.Common.{ℕ, ◌+◌, ℤ, w64, to_z, of_z, arith, sym, subst}
-use Rattle.tz_zone.specs.Sets.{schedule_of}
+use Rattle.tz_lookup.specs.Sets.{schedule_of}
 use Rattle.zone_tail.{specs.Choices.{IsBest}, proofs.ChoiceLemmas.{better, no_better}, proofs.choice.best.Goals.{then-steps-from, else-steps-from}}
 use Rattle.zone_tail.proofs.choice.best.Goals as goal
 

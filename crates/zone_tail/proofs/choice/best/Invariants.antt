@@ -1,4 +1,4 @@
-use Rattle.tz_zone.specs.Sets.{schedule_of}
+use Rattle.tz_lookup.specs.Sets.{schedule_of}
 use Rattle.zone_tail.specs.Choices.{IsBest}
 use Rattle.zone_tail.proofs.choice.best.Given as goal
 

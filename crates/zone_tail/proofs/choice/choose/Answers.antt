@@ -1,5 +1,5 @@
 use Rattle.std.proofs.Common.{to_z-of_z}
-use Rattle.tz_zone.specs.Sets.{schedule_of}
+use Rattle.tz_lookup.specs.Sets.{schedule_of}
 use Rattle.zone_tail.proofs.ChoiceLemmas.{is_choice}
 use Rattle.zone_tail.proofs.choice.choose.Goals as goal
 

@@ -1,6 +1,6 @@
 use Rattle.std.proofs.Common.{◌≡◌, suc, ◌+◌, ◌&&◌, w64, to_z-of_z, FitsSigned, rules, sym, ap, ◌∙◌, arith}
 use Rattle.zone_spans.specs.Entries.{total}
-use Rattle.tz_zone.specs.Sets.{total_of_span}
+use Rattle.tz_lookup.specs.Sets.{total_of_span}
 use Rattle.zone_tail.{specs.Shapes.{entry_in}, specs.Tails.{can_be_written}, proofs.ReadyLemmas.{total_of_span-is}}
 use Rattle.zone_tail.proofs.faults.are_written.Goals as goal
 

@@ -1,6 +1,6 @@
 use Rattle.std.proofs.{Common.{◌≡◌, suc, ◌+◌, ℤ, pos, ◌+ℤ◌, ◌≤ℤ◌, neg_ℤ, int_lt, w64, to_z, of_z, to_z-of_z, FitsSigned, rules, subst, sym, ap, ◌∙◌, arith}, lemmas.List.Elements.{All-get_or}, lemmas.Int.{ints}}
 use Rattle.zone_spans.specs.Entries.{total}
-use Rattle.tz_zone.specs.{Sets.{IsSpanTime, shifts_of, total_of_span}, Spans.{shift_at}}
+use Rattle.tz_lookup.specs.{Sets.{IsSpanTime, shifts_of, total_of_span}, Spans.{shift_at}}
 use Rattle.zone_tail.{specs.Shapes.{entry_in}, proofs.ShapeLemmas.{shift_is}, proofs.SpanLemmas.{length-shifts}}
 use Rattle.zone_tail.proofs.last_year.ends_before.Goals as goal
 

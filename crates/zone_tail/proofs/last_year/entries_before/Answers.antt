@@ -1,6 +1,6 @@
 use Rattle.std.proofs.{Common.{◌≡◌, ◌-ℤ◌, ◌≤ℤ◌, ◌<ℤ◌, w64, to_z, of_z, to_z-of_z, FitsSigned, rules, ⊎_elim, subst, ◌∙◌, arith}, lemmas.Int.{by_lt_z}, lemmas.Bool.{cases_lt}}
 use Rattle.basics.specs.ComparisonLaws.{le_le}
-use Rattle.tz_zone.specs.{Sets.{shifts_of}, Spans.{shift_at}}
+use Rattle.tz_lookup.specs.{Sets.{shifts_of}, Spans.{shift_at}}
 use Rattle.zone_tail.proofs.SpanLemmas.{length-shifts}
 use Rattle.zone_tail.proofs.last_year.entries_before.Goals as goal
 

@@ -1,5 +1,5 @@
 use Rattle.std.proofs.Common.{ℕ, ◌<◌, ◌-ℤ◌, ◌<ℤ◌}
-use Rattle.tz_zone.specs.{Sets.{shifts_of}, Spans.{shift_at}}
+use Rattle.tz_lookup.specs.{Sets.{shifts_of}, Spans.{shift_at}}
 use Rattle.zone_tail.proofs.last_year.entries_before.Given as goal
 
 -- the entries so far lie before

@@ -1,5 +1,5 @@
 use Rattle.std.proofs.Common.{◌≡◌, ℕ, ℤ, Bool, to_z-of_z, sym, ap, ◌∙◌}
-use Rattle.tz_zone.specs.declared.set.FixedTimespanSet.{FixedTimespanSet}
+use Rattle.tz_lookup.specs.declared.set.FixedTimespanSet.{FixedTimespanSet}
 use Rattle.zone_tail.{specs.LastYear.{are_start_and_end}, specs.Shapes.{entry_in}, proofs.FormLemmas.{starts_first, ends_first, neither}}
 use Rattle.zone_tail.proofs.last_year.form_of_pair.Goals as goal
 

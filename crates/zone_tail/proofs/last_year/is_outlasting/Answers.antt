@@ -1,5 +1,5 @@
 use Rattle.std.{proofs.Common.{ℤ, ◌-ℤ◌, w64, to_z-of_z, FitsSigned, rules, sym, ap, subst, ◌∙◌}, specs.Prelude.{nat_lt}}
-use Rattle.tz_zone.specs.Sets.{shifts_of}
+use Rattle.tz_lookup.specs.Sets.{shifts_of}
 use Rattle.zone_tail.{specs.LastYear.{year_end}, specs.Tails.{is_outlasting}, specs.Totals.{IsCount}, proofs.ShapeLemmas.{later_is}}
 use Rattle.zone_tail.proofs.last_year.is_outlasting.Goals as goal
 

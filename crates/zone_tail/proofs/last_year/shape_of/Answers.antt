@@ -1,6 +1,6 @@
 use Rattle.std.proofs.{Common.{◌≡◌, ◌-ℤ◌, ◌<ℤ◌, suc, ◌+◌, arith, rules, w64, to_z-of_z, FitsSigned, ap, ◌∙◌}, lemmas.Int.{ints}}
 use Rattle.basics.specs.ComparisonLaws.{lt_from_pass, lt_from_fail}
-use Rattle.tz_zone.specs.{Sets.{shifts_of}, Spans.{shift_at}}
+use Rattle.tz_lookup.specs.{Sets.{shifts_of}, Spans.{shift_at}}
 use Rattle.zone_tail.{specs.LastYear.{year_begin, year_end}, proofs.ShapeLemmas.{steady, pair, other}, proofs.last_year.shape_of.Goals.{else-end-begin-eq2-via-then-end-begin-eq2+else-time, else-end-begin-eq2-via-else-end-begin-eq2}}
 use Rattle.zone_tail.proofs.last_year.shape_of.Goals as goal
 

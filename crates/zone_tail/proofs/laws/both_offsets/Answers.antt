@@ -1,6 +1,6 @@
 -- What a set's string is parsed as is the zone that it stands for.
 use Rattle.std.proofs.Common.{◌≡◌, ℕ, List, Option, Ok, ℤ, sym, ap, ◌∙◌, Some, subst}
-use Rattle.tz_zone.specs.{declared.set.FixedTimespanSet.{FixedTimespanSet}, Zones.{set_of}}
+use Rattle.tz_lookup.specs.{declared.set.FixedTimespanSet.{FixedTimespanSet}, Zones.{set_of}}
 use Rattle.tz_posix.specs.{Parses.{IsParsed}, PosixShown.{posix_of}, Resolved.{resolved}, Spells.{Spells}, Values.{TzValue}, declared.posix.PosixTz.{PosixTz}, Offsets.{given_of}, PosixZones.{Gives, posix_refusal}}
 use Rattle.zone_tail.specs.Carried.{CarriesOn}
 use Rattle.zone_tail.proofs.laws.both_offsets.Goals as goal

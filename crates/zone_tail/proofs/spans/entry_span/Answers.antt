@@ -1,5 +1,5 @@
 use Rattle.std.proofs.Common.{◌≡◌, suc, ◌+◌, ap, ◌∙◌, arith}
-use Rattle.tz_zone.specs.Sets.{span_in}
+use Rattle.tz_lookup.specs.Sets.{span_in}
 use Rattle.zone_tail.proofs.spans.entry_span.Goals as goal
 
 pub returns : goal.returns

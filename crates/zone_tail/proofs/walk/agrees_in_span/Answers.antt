@@ -1,6 +1,6 @@
 use Rattle.std.proofs.Common.{w64, to_z-of_z, FitsSigned, rules, refl}
 use Rattle.basics.specs.ComparisonLaws.{le_from_pass}
-use Rattle.tz_zone.specs.Sets.{schedule_of}
+use Rattle.tz_lookup.specs.Sets.{schedule_of}
 use Rattle.zone_tail.proofs.StepLemmas.{in_no_span, in_span, span_in}
 use Rattle.zone_tail.proofs.walk.agrees_in_span.Goals as goal
 

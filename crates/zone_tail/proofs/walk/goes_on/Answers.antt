@@ -1,5 +1,5 @@
 use Rattle.std.{proofs.Common.{◌≡◌, ◌↔◌, ℕ, suc, ◌-◌, ◌<◌, length, w64, FitsSigned, to_z-of_z, rules, sym, ◌∙◌, subst, arith}, specs.Bool.{IsTrue}}
-use Rattle.tz_zone.specs.Sets.{schedule_of}
+use Rattle.tz_lookup.specs.Sets.{schedule_of}
 use Rattle.zone_tail.{specs.Agreement.{AgreesIn}, specs.Candidates.{ReachesTo, IsAllowed}, proofs.SpanLemmas.{length-shifts}, proofs.StepLemmas.{in_first, first_in}}
 use Rattle.zone_tail.proofs.walk.goes_on.Goals as goal
 

@@ -1,5 +1,5 @@
 use Rattle.std.proofs.Common.{w64, to_z, of_z, to_z-of_z, arith}
-use Rattle.tz_zone.specs.Sets.{schedule_of}
+use Rattle.tz_lookup.specs.Sets.{schedule_of}
 use Rattle.zone_tail.{specs.Agreement.{IsWalked}, proofs.StepLemmas.{walked_more}}
 use Rattle.zone_tail.proofs.walk.walk.Goals as goal
 

@@ -1,5 +1,5 @@
 use Rattle.std.proofs.Common.{ℕ, ◌+◌, ◌≤◌, length}
-use Rattle.tz_zone.specs.Sets.{schedule_of}
+use Rattle.tz_lookup.specs.Sets.{schedule_of}
 use Rattle.zone_tail.specs.{Agreement.{AgreesFrom}, Candidates.{IsAllowed}}
 use Rattle.zone_tail.proofs.walk.walk.Given as goal
 

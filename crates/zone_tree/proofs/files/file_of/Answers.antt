@@ -1,5 +1,5 @@
 use Rattle.std.proofs.Common.{◌≡◌, Ok, IfOk, IfErr, sym, subst}
-use Rattle.tz_zone.specs.Compiles.{compiled_in}
+use Rattle.tz_lookup.specs.Compiles.{compiled_in}
 use Rattle.zone_tree.{specs.ArchiveEntries.{of_file}, specs.Told.{IsWhy}, proofs.EntryLemmas.{content_is}}
 use Rattle.zone_tree.proofs.files.file_of.Goals as goal
 

@@ -1,5 +1,5 @@
 use Rattle.std.proofs.Common.{◌≡◌, suc, ◌+◌, FitsSigned, w64, rules, to_z-of_z, ap, ◌∙◌, arith}
-use Rattle.tz_zone.specs.Sets.{total_of_span}
+use Rattle.tz_lookup.specs.Sets.{total_of_span}
 use Rattle.zone_tzif.proofs.FormLemmas.{total_of_span-is}
 use Rattle.zone_tzif.proofs.faults.total_of_entry.Goals as goal
 

@@ -1,5 +1,5 @@
 use Rattle.std.proofs.Common.{◌≡◌, suc, ◌+◌, pos, ap, ◌∙◌, arith}
-use Rattle.tz_zone.specs.Sets.{span_in}
+use Rattle.tz_lookup.specs.Sets.{span_in}
 use Rattle.zone_tzif.specs.Tried.{are_start_and_end}
 use Rattle.zone_tzif.proofs.form.are_start_and_end.Goals as goal
 

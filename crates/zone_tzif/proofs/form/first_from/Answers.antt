@@ -1,6 +1,6 @@
 use Rattle.std.proofs.Common.{◌≤◌, length, ◌≤ℤ◌, FitsSigned, w64, rules, to_z-of_z, subst, sym, arith}
 use Rattle.basics.specs.ComparisonLaws.{le_from_pass}
-use Rattle.tz_zone.specs.Sets.{shifts_of}
+use Rattle.tz_lookup.specs.Sets.{shifts_of}
 use Rattle.zone_tzif.proofs.{FormLemmas.{first_from-is}, StepLemmas.{length-shifts}}
 use Rattle.zone_tzif.proofs.form.first_from.Goals as goal
 

@@ -1,5 +1,5 @@
 use Rattle.std.proofs.Common.{◌≡◌, suc, ◌+◌, sym, subst, ◌∙◌, arith}
-use Rattle.tz_zone.specs.Sets.{shifts_of}
+use Rattle.tz_lookup.specs.Sets.{shifts_of}
 use Rattle.zone_tail.specs.Shapes.{entry_in}
 use Rattle.zone_tzif.{specs.Agreement.{cycle_begin}, specs.Forms.{Shows}, specs.Tried.{first_from, form_of_two, next_year}, proofs.FormLemmas.{two_entries}}
 use Rattle.zone_tzif.proofs.form.form_of.Goals as goal

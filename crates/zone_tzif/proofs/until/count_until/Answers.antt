@@ -1,6 +1,6 @@
 use Rattle.std.proofs.Common.{◌≤◌, length, ◌<ℤ◌, FitsSigned, w64, rules, to_z-of_z, subst, arith}
 use Rattle.basics.specs.ComparisonLaws.{lt_from_pass}
-use Rattle.tz_zone.specs.{Sets.{shifts_of}, Spans.{IsCut}}
+use Rattle.tz_lookup.specs.{Sets.{shifts_of}, Spans.{IsCut}}
 use Rattle.zone_tzif.proofs.FrontLemmas.{count_is, cut_by}
 use Rattle.zone_tzif.proofs.until.count_until.Goals as goal
 

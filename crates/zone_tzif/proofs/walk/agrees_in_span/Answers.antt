@@ -1,8 +1,7 @@
 use Rattle.std.proofs.Common.{◌≡◌, suc, ◌+◌, ◌<◌, length, ◌≤ℤ◌, w64, to_z-of_z, FitsSigned, rules, refl, ap, ◌∙◌, arith}
 use Rattle.basics.specs.ComparisonLaws.{le_from_pass}
 use Rattle.tz_tzif.specs.FooterShown.{footer_shown}
-use Rattle.tz_lookup.specs.YearSeconds.{rules_begin}
-use Rattle.tz_zone.specs.Sets.{shifts_of}
+use Rattle.tz_lookup.specs.{YearSeconds.{rules_begin}, Sets.{shifts_of}}
 use Rattle.zone_tzif_core.specs.Shown.{record_shown}
 use Rattle.zone_tzif.{specs.Causes.{kind_in}, specs.declared.convert.Saves.TheVariants.{Any}, proofs.StepLemmas.{agreed, agrees_at, agrees_briefly, length-shifts}}
 use Rattle.zone_tzif.proofs.walk.agrees_in_span.Goals as goal

@@ -1,6 +1,6 @@
 use Rattle.std.proofs.Common.{ℕ, ◌<◌, ◌≤◌, length}
 use Rattle.tz_tzif.specs.FooterShown.{footer_shown}
-use Rattle.tz_zone.specs.Sets.{shifts_of}
+use Rattle.tz_lookup.specs.Sets.{shifts_of}
 use Rattle.zone_tzif.specs.Walked.{AgreesAt}
 use Rattle.zone_tzif.proofs.walk.walk.Given as goal
 

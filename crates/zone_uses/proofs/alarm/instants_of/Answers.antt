@@ -1,5 +1,5 @@
 use Rattle.std.proofs.{Common.{◌++◌, ◌∙◌, sym, ap, map, filter_map}, lemmas.List.{append-nil, at_drop_all}}
-use Rattle.tz_zone.specs.InForce.{shown_of}
+use Rattle.tz_lookup.specs.InForce.{shown_of}
 use Rattle.zone_uses.proofs.RungLemmas.{rung_shown}
 use Rattle.zone_uses.proofs.alarm.instants_of.Goals as goal
 

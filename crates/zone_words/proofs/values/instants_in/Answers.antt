@@ -1,6 +1,5 @@
 use Rattle.std.proofs.{Common.{◌≡◌, ◌∙◌, ap, refl, sym, map, ℕ, ◌+◌, ◌<◌, ◌++◌, ◌∷◌, [], List, length, get_or, drop, Option, ℤ, Ok, Err, Bor}, lemmas.List.{at_drop_all, at_drop_more}, lemmas.Result.{err_from_is_err_and}}
-use Rattle.zone_moments.specs.Shown.{asked}
-use Rattle.zone_words.specs.{Faults.{Fault, Reading, ◌>>=◌}, Shown.{word_shown}, Values.{instant_in, instants_in}}
+use Rattle.zone_words.specs.{TimesShown.{asked}, Faults.{Fault, Reading, ◌>>=◌}, Shown.{word_shown}, Values.{instant_in, instants_in}}
 use Rattle.zone_words.proofs.values.instants_in.Goals as goal
 
 -- one word more

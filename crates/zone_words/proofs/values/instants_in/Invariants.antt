@@ -1,6 +1,5 @@
 use Rattle.std.proofs.Common.{◌≡◌, [], drop, map}
-use Rattle.zone_moments.specs.Shown.{asked}
-use Rattle.zone_words.specs.{Shown.{word_shown}, Values.{instants_in}}
+use Rattle.zone_words.specs.{TimesShown.{asked}, Shown.{word_shown}, Values.{instants_in}}
 use Rattle.zone_words.proofs.values.instants_in.Given as goal
 
 -- what is left, behind what was found, is what all words ask

@@ -1,7 +1,7 @@
 use Rattle.std.proofs.Common.{◌≡◌, ◌∙◌, ℤ, Option, Some, None, IfSome, to_z-of_z, FitsSigned, w32, w64, rules, ap}
 use Rattle.civil_base.specs.{DateTimes.{instant, offset_of}, Instants.{local_at}, Ranges.{is_in_years}, declared.offset_date_time.OffsetDateTime.{OffsetDateTime}}
 use Rattle.tz_tzif.specs.InForce.{kind_at, told_total_at, total_in}
-use Rattle.tz_zone.specs.InForce.{shown_of}
+use Rattle.tz_lookup.specs.InForce.{shown_of}
 use Rattle.sefunjaro.specs.Files.{file_value}
 use Rattle.sefunjaro.proofs.file.FileZone.shown_at.Goals as goal
 

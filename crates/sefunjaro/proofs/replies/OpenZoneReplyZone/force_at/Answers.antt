@@ -1,6 +1,6 @@
 use Rattle.std.{proofs.Common.{◌≡◌, to_z, of_z, to_z-of_z, w64, ◌∙◌}, proofs.lemmas.Result.{IfOk-weaker}}
 use Rattle.tz_ever.specs.TablesShown.{table_of}
-use Rattle.zone_replies.specs.{Forces.{force_shown}, declared.force.Force.{Force}}
+use Rattle.zone_texts.specs.{Forces.{force_shown}, declared.force.Force.{Force}}
 use Rattle.sefunjaro.specs.{Replies.{force_of, span_on}, Zones.{spans_in}}
 use Rattle.sefunjaro.proofs.replies.OpenZoneReplyZone.force_at.Goals as goal
 

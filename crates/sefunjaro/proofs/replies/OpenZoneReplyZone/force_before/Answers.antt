@@ -1,6 +1,6 @@
 use Rattle.std.{proofs.Common.{◌≡◌, pos, ◌-ℤ◌, to_z, of_z, to_z-of_z, w64, ap, ◌∙◌}, proofs.lemmas.Result.{IfOk-weaker}}
 use Rattle.tz_ever.specs.TablesShown.{table_of}
-use Rattle.zone_replies.specs.{Forces.{force_shown}, declared.force.Force.{Force}}
+use Rattle.zone_texts.specs.{Forces.{force_shown}, declared.force.Force.{Force}}
 use Rattle.sefunjaro.{specs.Changes.{span_before}, specs.Replies.{force_of, span_on}, specs.Zones.{spans_in}, proofs.ReplyLemmas.{until_is}}
 use Rattle.sefunjaro.proofs.replies.OpenZoneReplyZone.force_before.Goals as goal
 

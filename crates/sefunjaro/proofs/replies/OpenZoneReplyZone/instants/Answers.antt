@@ -2,7 +2,7 @@ use Rattle.std.{proofs.Common.{◌≡◌, map, ap, ◌∙◌}, proofs.lemmas.Res
 use Rattle.civil_base.specs.DateTimes.{instant}
 use Rattle.tz_ever.specs.{Asked.{asked_recurrence, asked_set}, Recurrences.{zone_total}}
 use Rattle.zone_spans.specs.Schedules.{instants}
-use Rattle.tz_zone.specs.InForce.{all_in_force, shown_of}
+use Rattle.tz_lookup.specs.InForce.{all_in_force, shown_of}
 use Rattle.sefunjaro.{specs.Zones.{total_in}, proofs.ReplyLemmas.{dates_of}}
 use Rattle.sefunjaro.proofs.replies.OpenZoneReplyZone.instants.Goals as goal
 

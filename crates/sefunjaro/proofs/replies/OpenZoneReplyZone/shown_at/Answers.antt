@@ -1,5 +1,5 @@
 use Rattle.std.proofs.{Common.{ap}, lemmas.Option.{IfSome_then}}
-use Rattle.tz_zone.specs.InForce.{shown_of}
+use Rattle.tz_lookup.specs.InForce.{shown_of}
 use Rattle.sefunjaro.proofs.replies.OpenZoneReplyZone.shown_at.Goals as goal
 
 pub returns-clause-instant : goal.returns-clause-instant

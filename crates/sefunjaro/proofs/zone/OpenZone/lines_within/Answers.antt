@@ -1,5 +1,5 @@
 use Rattle.std.{proofs.Common.{◌≡◌, ℤ, false, subst, to_z-of_z}, specs.Prelude.{IfOk, IsErrOf}}
-use Rattle.tz_zone.specs.declared.set.FixedTimespanSet.{FixedTimespanSet}
+use Rattle.tz_lookup.specs.declared.set.FixedTimespanSet.{FixedTimespanSet}
 use Rattle.zone_list.specs.{Ranges.{all_have_dates}, Rows.{rows}, Windows.{window}, declared.listing.ListFault.TheVariants.{Range}}
 use Rattle.sefunjaro.proofs.zone.OpenZone.lines_within.Goals as goal
 

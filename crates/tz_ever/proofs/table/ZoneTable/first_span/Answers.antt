@@ -1,7 +1,7 @@
 use Rattle.std.proofs.Common.{arith, ap, sym, ◌∙◌}
 use Rattle.tz_ever.specs.{Recurrences.{comes_again}, Unrolled.{seam_second}, ZoneShown.{zone_set_of}}
 use Rattle.tz_ever.specs.declared.recurrence.Recurrence.TheVariants.{Never, Later, Always}
-use Rattle.tz_zone.specs.Sets.{span_in}
+use Rattle.tz_lookup.specs.Sets.{span_in}
 use Rattle.tz_ever.proofs.TableLemmas.{before_length, first_is, span_at_start}
 use Rattle.tz_ever.proofs.table.ZoneTable.first_span.Goals as goal
 

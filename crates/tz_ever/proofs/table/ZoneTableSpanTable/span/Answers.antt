@@ -1,5 +1,5 @@
 use Rattle.std.proofs.Common.{◌+◌, ap, ◌∙◌}
-use Rattle.tz_zone.specs.Sets.{span_in}
+use Rattle.tz_lookup.specs.Sets.{span_in}
 use Rattle.tz_ever.{specs.{TablesShown.{table_of}, ZoneShown.{zone_set_of}}, proofs.TableLemmas.{span_of_place}}
 use Rattle.tz_ever.proofs.table.ZoneTableSpanTable.span.Goals as goal
 

@@ -1,5 +1,5 @@
 use Rattle.std.proofs.{Common.{◌≡◌, ◌+ℤ◌, to_z, of_z, w64, SFits, rules, ap, subst, sym, ◌∙◌}, lemmas.Int.{to_z-of_z}}
-use Rattle.tz_zone.specs.{Sets.{IsSpanTime, shifts_of}, Spans.{shift_at}}
+use Rattle.tz_lookup.specs.{Sets.{IsSpanTime, shifts_of}, Spans.{shift_at}}
 use Rattle.tz_ever.{specs.{TablesShown.{table_of}, ZoneShown.{zone_set_of}}, proofs.TableLemmas.{time_bound, time_of_place}}
 use Rattle.tz_ever.proofs.table.ZoneTableSpanTable.time.Goals as goal
 

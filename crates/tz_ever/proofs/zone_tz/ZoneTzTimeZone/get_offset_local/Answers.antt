@@ -1,6 +1,5 @@
 use Rattle.civil_base.specs.DateTimes.{local_of}
-use Rattle.tz_lookup.specs.CompactZones.{compact_of}
-use Rattle.tz_zone.specs.AnswerLaws.{instants_of_offsets}
+use Rattle.tz_lookup.specs.{CompactZones.{compact_of}, AnswerLaws.{instants_of_offsets}}
 use Rattle.tz_ever.{specs.Recurrences.{zone_total}, proofs.AnswerLemmas.{names_turned, totals_turned}}
 use Rattle.tz_ever.proofs.zone_tz.ZoneTzTimeZone.get_offset_local.Goals as goal
 

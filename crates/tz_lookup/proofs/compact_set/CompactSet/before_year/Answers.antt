@@ -1,6 +1,5 @@
 use Rattle.std.proofs.{Common.{◌-◌, length, get_or, sym, ap, ◌∙◌, arith}, lemmas.List.{length-map}}
-use Rattle.tz_zone.specs.Sets.{shift_of, shifts_of}
-use Rattle.tz_lookup.{specs.CompactShown.{seen}, proofs.YearCountLemmas.{upper}}
+use Rattle.tz_lookup.{specs.{Sets.{shift_of, shifts_of}, CompactShown.{seen}}, proofs.YearCountLemmas.{upper}}
 use Rattle.tz_lookup.proofs.compact_set.CompactSet.before_year.Goals as goal
 
 pub returns-else-year-eq0-clause-bound : goal.returns-else-year-eq0-clause-bound

@@ -1,6 +1,5 @@
 use Rattle.std.proofs.{Common.{◌≡◌, ◌+◌, ◌-◌, suc, length, ℤ, w64, to_z, of_z, sym, ap, ◌∙◌, subst, arith}, lemmas.Int.{to_z-of_z}, lemmas.List.{length-map}}
-use Rattle.tz_zone.specs.Sets.{shift_of, shifts_of, IsNear}
-use Rattle.tz_lookup.{specs.CompactShown.{seen}, specs.YearCounts.{before_year}, proofs.YearCountLemmas.{near_is}}
+use Rattle.tz_lookup.{specs.{Sets.{shift_of, shifts_of, IsNear}, CompactShown.{seen}, YearCounts.{before_year}}, proofs.YearCountLemmas.{near_is}}
 use Rattle.tz_lookup.proofs.compact_set.CompactSet.near.Goals as goal
 
 pub returns-clause-near : goal.returns-clause-near

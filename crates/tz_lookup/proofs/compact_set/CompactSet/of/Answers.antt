@@ -1,8 +1,7 @@
 use Rattle.std.proofs.Common.{◌≡◌, ◌↔◌, ℤ, ◌≤◌, length, IsTrue, sym, ap, ◌∙◌, subst}
 use Rattle.civil_base.specs.Ranges.{IsOffset}
 use Rattle.zone_spans.specs.Schedules.{instants, total_at}
-use Rattle.tz_zone.specs.{Sets.{schedule_of, shifts_of, IsAccepted, IsOrderlyZone}, declared.set.FixedTimespanSet.{FixedTimespanSet}}
-use Rattle.tz_lookup.{specs.Compact.{set_seen}, specs.Kinds.{kinds_of}, specs.YearCounts.{AreYearCounts}, proofs.BuildLemmas.{ended}}
+use Rattle.tz_lookup.{specs.{Sets.{schedule_of, shifts_of, IsAccepted, IsOrderlyZone}, declared.set.FixedTimespanSet.{FixedTimespanSet}, Compact.{set_seen}, Kinds.{kinds_of}, YearCounts.{AreYearCounts}}, proofs.BuildLemmas.{ended}}
 use Rattle.tz_lookup.proofs.compact_set.CompactSet.of.Goals as goal
 
 the_set : (c : goal.After-is_orderly-orderly)

@@ -1,6 +1,5 @@
 use Rattle.std.proofs.{Common.{◌≡◌, ◌+◌, ◌-◌, ◌≤◌, suc, length, ℤ, w64, to_z, of_z, sym, ap, ◌∙◌, subst, arith}, lemmas.Int.{to_z-of_z}, lemmas.List.{length-map}}
-use Rattle.tz_zone.specs.Sets.{shift_of, shifts_of, IsBetween}
-use Rattle.tz_lookup.{specs.CompactShown.{seen}, specs.YearCounts.{before_year}, specs.Years.{changes_in_year, HaveBegun}, proofs.YearCountLemmas.{between_is, year_changes, paid_by}}
+use Rattle.tz_lookup.{specs.{Sets.{shift_of, shifts_of, IsBetween}, CompactShown.{seen}, YearCounts.{before_year}, Years.{changes_in_year, HaveBegun}}, proofs.YearCountLemmas.{between_is, year_changes, paid_by}}
 use Rattle.tz_lookup.proofs.compact_set.CompactSet.span_in_year.Goals as goal
 
 pub span_between-requires-clause-between : goal.span_between-requires-clause-between

@@ -1,6 +1,5 @@
 use Rattle.std.proofs.{Common.{w64, SFits, rules, ◌∙◌, refl, subst}, lemmas.Int.{to_z-of_z}}
-use Rattle.tz_zone.specs.{Sets.{IsNear, shifts_of}, UtcLaws.{second_at_utc}}
-use Rattle.tz_lookup.specs.CompactZones.{compact_of}
+use Rattle.tz_lookup.specs.{Sets.{IsNear, shifts_of}, UtcLaws.{second_at_utc}, CompactZones.{compact_of}}
 use Rattle.tz_lookup.proofs.compact_tz.CompactTz.near.Goals as goal
 
 pub returns-clause-near : goal.returns-clause-near

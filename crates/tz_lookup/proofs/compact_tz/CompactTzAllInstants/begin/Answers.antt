@@ -1,6 +1,5 @@
 use Rattle.zone_spans.specs.Schedules.{total_at}
-use Rattle.tz_zone.specs.{AnswerLaws.{all_of_two}, Sets.{schedule_of}}
-use Rattle.tz_lookup.specs.CompactShown.{seen}
+use Rattle.tz_lookup.specs.{AnswerLaws.{all_of_two}, Sets.{schedule_of}, CompactShown.{seen}}
 use Rattle.tz_lookup.proofs.compact_tz.CompactTzAllInstants.begin.Goals as goal
 
 pub returns-then-is_orderly : goal.returns-then-is_orderly

@@ -1,5 +1,5 @@
 use Rattle.std.proofs.Common.{◌∙◌}
-use Rattle.tz_zone.specs.AnswerLaws.{instants_of_offsets}
+use Rattle.tz_lookup.specs.AnswerLaws.{instants_of_offsets}
 use Rattle.tz_lookup.proofs.compact_tz.CompactTzTimeZone.get_offset_local.Goals as goal
 
 pub returns-clause-names : goal.returns-clause-names

@@ -1,9 +1,8 @@
 use Rattle.std.proofs.{Common.{rules, ◌≡◌, ◌<◌, List, ℕ, Some, length, map, get_or, sym, ap, ◌∙◌, subst}, lemmas.Cmp.{nat_list_cmp_total}, lemmas.Fn.{always_returns_same}, lemmas.List.Sorted.{searchable_from_sorted}}
 use Rattle.std.specs.{Prelude.{option_map}, declared.cmp.Ordering.{Ordering}, declared.cmp.Ordering.TheVariants.{Equal}, List.{find}, Str.{bytes_eq}}
 use Rattle.basics.specs.{InOrderLaws.{RisesStrictly}, Keyed.{text_cmp}}
-use Rattle.tz_lookup.{specs.declared.database.Known.{Known}, proofs.DatabaseLemmas.{find-map, found_at, map-twice, names_sorted, none_beside}}
+use Rattle.tz_lookup.{specs.{declared.database.Known.{Known}, declared.set.FixedTimespanSet.{FixedTimespanSet}}, proofs.DatabaseLemmas.{find-map, found_at, map-twice, names_sorted, none_beside}}
 use Rattle.tz_lookup.proofs.database.Database.get_by_name.Goals as goal
-use Rattle.tz_zone.specs.declared.set.FixedTimespanSet.{FixedTimespanSet}
 
 abbrev set_in : Known → FixedTimespanSet
 set_in known = known.set

@@ -1,5 +1,5 @@
 use Rattle.std.proofs.{Common.{length, ap, arith}, lemmas.List.{length-map}}
-use Rattle.tz_zone.specs.{AllLeft.{all_left}, InForce.{shown_of}}
+use Rattle.tz_lookup.specs.{AllLeft.{all_left}, InForce.{shown_of}}
 use Rattle.tz_tzif.{specs.Zones.{value_of, says_of}, proofs.InstantLemmas.{few_dates}}
 use Rattle.tz_tzif.proofs.zone.TzifTz.instants_local.Goals as goal
 

@@ -2,7 +2,7 @@ use Rattle.std.proofs.Common.{◌∙◌, ◌∷◌, rules, take, refl, sym, ap}
 use Rattle.civil_base.specs.DateTimes.{local_of}
 use Rattle.tz_tzif.{specs.FooterShown.{held_shown}, specs.Kept.{items_of}, specs.Zones.{value_of, says_of}, proofs.InstantLemmas.{totals_kept, kind_held}, proofs.ReadLemmas.{utc_second_cast}}
 use Rattle.tz_tzif.proofs.zone.TzifTzTimeZone.get_offset_local.Goals as goal
-use Rattle.tz_zone.specs.AnswerLaws.{instants_of_offsets}
+use Rattle.tz_lookup.specs.AnswerLaws.{instants_of_offsets}
 
 pub returns-in-None-clause-totals : goal.returns-in-None-clause-totals
 returns-in-None-clause-totals c =

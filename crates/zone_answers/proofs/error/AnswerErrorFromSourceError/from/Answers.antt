@@ -1,5 +1,5 @@
 use Rattle.std.proofs.Common.{refl, sym, ◌∙◌}
-use Rattle.zone_values.specs.Faults.{fault_of}
+use Rattle.zone_table.specs.Faults.{fault_of}
 use Rattle.zone_answers.proofs.AnsweringLemmas.{line_told, none_told}
 use Rattle.zone_answers.proofs.error.AnswerErrorFromSourceError.from.Goals as goal
 

@@ -1,5 +1,5 @@
 use Rattle.std.{proofs.Common.{Ok, ap, sym, ◌∙◌}, specs.FinMap.{get}}
-use Rattle.tz_zone.specs.{Compiles.{compiled_in}, Sets.{schedule_of}, declared.set.FixedTimespanSet.{FixedTimespanSet}}
+use Rattle.tz_lookup.specs.{Compiles.{compiled_in}, Sets.{schedule_of}, declared.set.FixedTimespanSet.{FixedTimespanSet}}
 use Rattle.zone_run.specs.FoundLaws.{compiled_found, compiled_refused}
 use Rattle.zone_spans.specs.Schedules.{total_at, totals_of}
 use Rattle.zone_table.specs.Resolved.{resolved_in}

@@ -1,5 +1,5 @@
 use Rattle.std.{proofs.Common.{◌≡◌, ℕ, map, ℤ}, specs.Prelude.{max}}
-use Rattle.tz_zone.specs.declared.set.FixedTimespanSet.{FixedTimespanSet}
+use Rattle.tz_lookup.specs.declared.set.FixedTimespanSet.{FixedTimespanSet}
 use Rattle.zone_list.{specs.Rows.{name_of, time_of, widest}, specs.Windows.{window}, proofs.StepLemmas.{left}}
 use Rattle.zone_list.proofs.widths.Widths.of.Given as goal
 

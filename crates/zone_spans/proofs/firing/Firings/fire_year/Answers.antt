@@ -1,6 +1,6 @@
 use Rattle.std.proofs.{Common.{◌≡◌, ◌-◌, ◌+◌, ◌∷◌, [], ◌⊎◌, inl, inr, Option, None, length, refl, sym, ap, ◌∙◌, subst, arith, rules, to_z, of_z, w64, SFits, ℤ, IsTrue}, lemmas.Int.{to_z-of_z}, lemmas.List.Folds.{list_all-append}}
 use Rattle.std.specs.List.{list_all}
-use Rattle.zone_values.specs.{Bounds.{are_small_seconds}, declared.change.ChangeTime.{ChangeTime}}
+use Rattle.zone_table.specs.{LineBounds.{are_small_seconds}, declared.change.ChangeTime.{ChangeTime}}
 use Rattle.zone_spans.specs.{Bounds.{is_bounded_firing, is_small}, Fires.{Fires, after}, Firings.{Firing, year_firings}, Fronts.{fronts_of, next_firing}, Lines.{Line}, Placed.{placed_from}, declared.front.YearRules.{YearRules}}
 use Rattle.zone_spans.proofs.{BoundLemmas.{both, second}, FrontLemmas.{owes_begun, owes_next, owes_none}, firing.Firings.fire_year.Goals.{else-loop-i-test, then-loop-i-test+in_default}}
 use Rattle.zone_spans.proofs.firing.Firings.fire_year.Goals as goal

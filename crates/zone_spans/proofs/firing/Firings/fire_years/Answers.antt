@@ -1,5 +1,5 @@
 use Rattle.std.{proofs.Common.{◌++◌, Option, sym, ap, ◌∙◌, subst, rules, to_z, of_z, w64, SFits, IsTrue}, specs.List.{list_all}, proofs.lemmas.Int.{to_z-of_z}}
-use Rattle.zone_values.specs.declared.change.ChangeTime.{ChangeTime}
+use Rattle.zone_table.specs.declared.change.ChangeTime.{ChangeTime}
 use Rattle.zone_spans.{specs.Bounds.{can_fire, is_end}, specs.Firings.{Fired, year_firings}, specs.Lines.{Line}, proofs.SoundLemmas.{bounded_offset, sound_end, sound_rules}, proofs.YearLemmas.{next_year, stands_year}}
 use Rattle.zone_spans.proofs.firing.Firings.fire_years.Goals as goal
 

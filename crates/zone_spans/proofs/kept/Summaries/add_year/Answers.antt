@@ -1,5 +1,5 @@
 use Rattle.std.{proofs.Common.{◌+◌, ◌++◌, ◌≤ℤ◌, List, ℤ, None, IsTrue, subst, sym, ap, ◌∙◌, pos, length, int_le, rules, to_z, of_z, w64, SFits, arith}, specs.List.{last_or, list_all}, proofs.lemmas.Int.{to_z-of_z}}
-use Rattle.zone_values.specs.Bounds.{are_small_seconds}
+use Rattle.zone_table.specs.LineBounds.{are_small_seconds}
 use Rattle.zone_spans.specs.{Bounds.{can_fire, is_bounded_firing}, Firings.{Firing, year_firings}, Kept.{AreSummaries, IsLastSummary}, declared.kept.Summary.{Summary}, Years.{earliest_year}}
 use Rattle.zone_spans.proofs.{KeptLemmas.{last_is, sound_savings, unended_small, year_summed}, SoundLemmas.{bounded_offset, sound_rules}}
 use Rattle.zone_spans.proofs.kept.Summaries.add_year.Goals as goal

@@ -1,5 +1,5 @@
 use Rattle.std.{proofs.Common.{◌≡◌, ℕ, ◌+◌, ◌≤◌, ◌≤ℤ◌, List, Option, Some, ℤ, IsTrue, sym, ap, ◌∙◌, subst, length, take, rules, to_z, of_z, w64, SFits}, proofs.lemmas.Int.{to_z-of_z}, proofs.lemmas.Result.{IfOk-weaker}, specs.List.{list_all}}
-use Rattle.zone_values.specs.{Bounds.{are_small_seconds}, declared.change.ChangeTime.{ChangeTime}}
+use Rattle.zone_table.specs.{LineBounds.{are_small_seconds}, declared.change.ChangeTime.{ChangeTime}}
 use Rattle.zone_spans.specs.{Bounds.{IsSound, is_bounded_firing, is_end}, Firings.{Firing, firings_of_years}, Kept.{AreBelow, AreSummaries, IsLastSummary, IsLimit}, Lines.{Line}, Stands.{StandsFor}, declared.kept.Summary.{Summary}}
 use Rattle.zone_spans.proofs.{KeptLemmas.{Serves, stand_on_ok, summary_serves, sooner_limit, sound_savings}, SoundLemmas.{bounded_offset, sound_end}}
 use Rattle.zone_spans.proofs.kept.Summaries.fire_from.Goals as goal

@@ -1,6 +1,5 @@
 use Rattle.std.proofs.Common.{◌≡◌, ◌∙◌}
-use Rattle.zone_values.specs.Values.{info_value}
-use Rattle.zone_table.{specs.Owned.{owned_info}, proofs.Steps.{continuation_joins, with_item}}
+use Rattle.zone_table.{specs.{Values.{info_value}, Owned.{owned_info}}, proofs.Steps.{continuation_joins, with_item}}
 use Rattle.zone_table.proofs.table.TableBuilder.add_continuation_line.Goals as goal
 
 pub returns-clause-ok : goal.returns-clause-ok

@@ -1,6 +1,5 @@
 use Rattle.std.proofs.Common.{ap, ◌∙◌}
-use Rattle.zone_values.specs.Values.{rule_value}
-use Rattle.zone_table.proofs.Steps.{rule_joins, with_item}
+use Rattle.zone_table.{specs.Values.{rule_value}, proofs.Steps.{rule_joins, with_item}}
 use Rattle.zone_table.proofs.table.TableBuilder.add_rule_line.Goals as goal
 
 pub returns-clause-ok : goal.returns-clause-ok

@@ -1,6 +1,5 @@
 use Rattle.std.proofs.Common.{ap, sym, subst, ◌∙◌}
-use Rattle.zone_values.specs.Values.{info_value, saving_value}
-use Rattle.zone_table.proofs.{Steps.{zone_joins, with_item, HasRuleset, not_by_ruleset}, table.TableBuilder.add_zone_line.Goals.{in-Multiple+else-not-contains_key, in_default}}
+use Rattle.zone_table.{specs.Values.{info_value, saving_value}, proofs.{Steps.{zone_joins, with_item, HasRuleset, not_by_ruleset}, table.TableBuilder.add_zone_line.Goals.{in-Multiple+else-not-contains_key, in_default}}}
 use Rattle.zone_table.proofs.table.TableBuilder.add_zone_line.Goals as goal
 
 pub returns-clause-ok : goal.returns-clause-ok

@@ -1,6 +1,6 @@
 use Rattle.std.proofs.Common.{◌≤◌, length, ap, sym, ◌∙◌, subst, arith}
 use Rattle.tz_ever.specs.ZoneShown.{zone_set_of}
-use Rattle.tz_zone.specs.{Sets.{span_in}, declared.set.FixedTimespanSet.{FixedTimespanSet}}
+use Rattle.tz_lookup.specs.{Sets.{span_in}, declared.set.FixedTimespanSet.{FixedTimespanSet}}
 use Rattle.zone_tzif.proofs.FrontLemmas.{front_length, span_front}
 use Rattle.zone_tzif.proofs.until.UntilSpanTable.span.Goals as goal
 

@@ -1,6 +1,6 @@
 use Rattle.std.proofs.{Common.{◌<◌, length, w64, SFits, rules, ap, sym, ◌∙◌, subst, arith}, lemmas.Int.{to_z-of_z}}
 use Rattle.tz_ever.specs.ZoneShown.{zone_set_of}
-use Rattle.tz_zone.specs.{Sets.{shifts_of}, Spans.{Shift, shift_at}, declared.set.FixedTimespanSet.{FixedTimespanSet}}
+use Rattle.tz_lookup.specs.{Sets.{shifts_of}, Spans.{Shift, shift_at}, declared.set.FixedTimespanSet.{FixedTimespanSet}}
 use Rattle.zone_tzif.proofs.FrontLemmas.{front_length, shift_front, take_length}
 use Rattle.zone_tzif.proofs.until.UntilSpanTable.time.Goals as goal
 

@@ -1,6 +1,6 @@
 use Rattle.std.proofs.Common.{map, sym, subst, ◌∙◌}
 use Rattle.civil_base.specs.{DateTimes.{instant, local_of}, Instants.{instant_at}}
-use Rattle.tz_zone.specs.InForce.{AreInstants}
+use Rattle.tz_lookup.specs.InForce.{AreInstants}
 use Rattle.zone_uses.specs.{MoveLaws.{are_around, totals_around}, Moves.{total_around}}
 use Rattle.zone_uses.proofs.moved.MovedTimeZone.get_offset_local.Goals as goal
 

@@ -1,0 +1,41 @@
+-- The address moves to what reads, with its part of the loan.
+use Rattle.std.proofs.Common.{List, [], ◌∷◌, ◌++◌, refl, sym, subst, true, ◌≡◌}
+use mir.Val.{Val}
+use base.Logic.{SProp, ent, id⊢}
+use base.Fml.{Fml, ftrue, fsep}
+use prog.Wp.{WpFn}
+use contract.Running.{tables}
+use contract.Monad.{fact}
+use types.Kit.{‵, raw, ◌⊛◌, ◌$◌, ◌∵◌, !, qed, keep, move, join, split, drop, fsplit, fjoin, suffices, done}
+use types.Part.{whole, sub, agg}
+use types.Run.{stop, fld, no_more, and_then, of_opd, returns, enter}
+use types.ByLocal.{alloc_all, pass_all, free_all, look_at, get, get_in, sets}
+use denote.Exit.{yes}
+use denote.RawPtr.{Ptr}
+use denote.Signature.{plain}
+use denote.Steps.{nothing, heard}
+use denote.Triple.Walked.{says, Stays, stay_dropped, walk_of, ends_at, Goes-dropped}
+use Rattle.std.{proofs.raw_atomic.Walks.{proved_at}, specs.Prelude.{is_some}}
+use Rattle.sefunjaro_c.{specs.Loans.{loan_owns, part_owns}, proofs.{Addresses.{address_fits, made, lent_there, opened, word, word_fits}, view.Part.read.Statement.{statement}}}
+use Rattle.sefunjaro_c.specs.contracts.view.Part as Part
+use Rattle.sefunjaro_c.specs.contracts.view.Part.read as F
+use Rattle.sefunjaro_c.proofs.view.Part.read.Code as code
+
+abbrev stays : Stays F.ended.signature.params F.ended.kept
+stays = (stay_dropped (plain (λ _. Part.the_row)) yes, tt)
+
+pub read_spec : {M : Type 1} → statement M
+read_spec 𝓤 𝓛 𝓜 𝓡 wired =
+    let clauses = F.clauses 𝓛 𝓜.mem 𝓡.returns in let 𝓣 = tables 𝓤 𝓛.H 𝓜 𝓡 𝓡.env in let From = Part.the_row in
+    proved_at 𝓛 F.ended stays clauses 𝓜 𝓡 (Goes-dropped 𝓛 0 (plain (λ _. From)) yes (λ κs x f. refl), tt) F.Key.name code.function (code.unfolded 𝓤 𝓛.H 𝓜 𝓡 wired) (λ y are.
+    let d = y.0.3.0 in let at : Ptr = d.at in let owned : Fml = loan_owns at d.opened d.loan in let words = y.0.4.0 in
+    let Post : Val → SProp 𝓤 = (walk_of 𝓛 F.ended stays clauses).post y in let Runs : List Val → SProp 𝓤 = λ vs. WpFn 𝓤 𝓛.H 𝓣.C 𝓣.Λ code.function (vs ++ []) Post in
+    qed 𝓛 ((‵ ftrue ⊛ ‵ (fsep (From.own_val d words) ftrue)) ∷ raw (fact 𝓤 (is_some d.opened ≡ true)) ∷ []) ∵ move ! (1 ∷ []) $ heard ! (is_some d.opened ≡ true) (λ some'. split ! $ drop ! $ fsplit ! $
+    opened ! at owned words (λ is_word. lent_there ! at d.opened d.loan some' (λ value is_value.
+    suffices ! (Runs (word at ∷ [])) (subst (λ vs. ent 𝓤 (Runs (word at ∷ [])) (Runs vs)) (sym is_word) (id⊢ 𝓤 _)) $
+    enter ! _ _ _ _ _ $ alloc_all ! (λ locals. pass_all ! refl (word_fits at, tt) $
+    sets ! (of_opd ! (get_in ! (fld ! refl (stop !)) (sub ! 0 refl (whole !)))) refl (address_fits at) $ sets ! (of_opd ! (get ! refl)) refl (address_fits at) $
+    sets ! (agg ! (and_then ! (get ! refl) (no_more !))) refl (word_fits at) $ returns ! (look_at ! 0 refl) $ free_all ! refl $
+    made ! at (part_owns at value d.loan) $ keep ! (0 ∷ []) $
+    suffices ! _ (ends_at 𝓛 F.ended stays clauses y (word at) (record { at = at; opened = value; loan = d.loan }) (tt, tt) (tt, tt)) $ says ! (is_value, refl) $
+    nothing ! $ nothing ! $ fjoin ! $ join ! $ nothing ! $ join ! $ done !)))))

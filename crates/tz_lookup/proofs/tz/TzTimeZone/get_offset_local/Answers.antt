@@ -1,0 +1,14 @@
+use Rattle.std.proofs.Common.{◌∙◌}
+use Rattle.tz_lookup.{specs.AnswerLaws.{instants_of_offsets}, proofs.OrderLemmas.{all_near}}
+use Rattle.tz_lookup.proofs.tz.TzTimeZone.get_offset_local.Goals as goal
+
+pub local_spans-requires-clause-near : goal.local_spans-requires-clause-near
+local_spans-requires-clause-near c = all_near c.args.self.now.set.now _ _ c.entry_count.ensures.count
+
+pub returns-clause-names : goal.returns-clause-names
+returns-clause-names c = c.of_spans.ensures.names _ c.local_spans.ensures.read
+
+pub returns-clause-exact : goal.returns-clause-exact
+returns-clause-exact c = λ orderly.
+    instants_of_offsets _ _ _ c.args.self.now.range (c.args.self.now.two orderly _)
+    (c.of_spans.ensures.totals ∙ c.local_spans.ensures.totals)

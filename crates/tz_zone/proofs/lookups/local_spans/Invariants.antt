@@ -1,4 +1,0 @@
-use Rattle.tz_zone.proofs.lookups.local_spans.Given as goal
-
-abbrev pub ghosts-spans_under : goal.ghosts-spans_under
-ghosts-spans_under g a = record { name = a.blank.name; parts = a.blank.parts }

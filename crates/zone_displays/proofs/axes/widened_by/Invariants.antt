@@ -1,7 +1,0 @@
-use Rattle.std.{proofs.Common.{◌≡◌, map, take}, specs.List.{fold}}
-use Rattle.zone_displays.specs.Axes.{widened}
-use Rattle.zone_displays.proofs.axes.widened_by.Given as goal
-use Rattle.zone_replies.specs.Skips.{after_of}
-
-abbrev pub invariant-loop-change : goal.invariant-loop-change
-invariant-loop-change g l = l.found ≡ fold widened l.fn.hours (map (after_of (g.Z.ReplyZone.view l.zone)) (take l.change-index l.changes))

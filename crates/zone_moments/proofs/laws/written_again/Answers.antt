@@ -1,5 +1,0 @@
-use Rattle.zone_moments.proofs.BackLemmas.{local_back, rfc3339_back, epoch_back}
-use Rattle.zone_moments.proofs.laws.written_again.Goals as goal
-
-pub returns : goal.returns
-returns c = record { local = local_back; rfc3339 = rfc3339_back; epoch = epoch_back }

@@ -1,9 +1,0 @@
-use Rattle.std.proofs.Common.{◌≡◌, ◌≤◌, take}
-use Rattle.zone_moments.specs.Written.{shortest}
-use Rattle.zone_moments.proofs.write.shortest.Given as goal
-
-abbrev pub invariant-loop-place : goal.invariant-loop-place
-invariant-loop-place l = record {
-  so_far : shortest (take l.place l.digits) ≡ take l.kept l.digits;
-  bound : l.kept ≤ l.place;
-}

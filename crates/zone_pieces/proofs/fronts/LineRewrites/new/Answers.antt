@@ -1,6 +1,0 @@
-use Rattle.zone_pieces.specs.Lines.{open_behind}
-use Rattle.zone_pieces.proofs.fronts.LineRewrites.new.Goals as goal
-
-pub returns-clause-fed : goal.returns-clause-fed
-unfolding open_behind
-returns-clause-fed g c = c.in_ok-held.ensures

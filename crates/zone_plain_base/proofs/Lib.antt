@@ -1,7 +1,0 @@
-pub mod MeantLemmas
-pub mod ReadingLemmas
-mod WorkedSaid
-mod WorkedTexts
-mod MarkLemmas
-mod WorkedMarks
-mod WorkedNames

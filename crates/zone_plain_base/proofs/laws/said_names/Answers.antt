@@ -1,5 +1,0 @@
-use Rattle.zone_plain_base.specs.{MarkLaws.{short_mark}, NameLaws.{stays_so, is_new, one_name, can_be_said, read_again}}
-use Rattle.zone_plain_base.proofs.laws.said_names.Goals as goal
-
-pub returns : goal.returns
-returns c = record { stays = stays_so; new = is_new; one = one_name; said = can_be_said; read = read_again; short = short_mark }

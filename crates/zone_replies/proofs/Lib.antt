@@ -1,4 +1,0 @@
-pub mod InstantLemmas
-pub mod ListLemmas
-pub mod LocalLemmas
-mod WorkedReplies

@@ -1,5 +1,0 @@
-use Rattle.sefunjaro.specs.Sources.{table_in}
-use Rattle.zone_serving.proofs.source.AnySourceZoneSource.string.Goals as goal
-
-pub returns : goal.returns
-returns c = c.string_in.ensures (table_in c.args.self.now.source) c.args.name.now c.in_ok-zone.ensures.ok c.in_ok-zone.ensures.ever

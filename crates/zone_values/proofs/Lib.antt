@@ -1,6 +1,0 @@
-mod DayLemmas
-mod WorkedBounds
-mod WorkedDays
-mod WorkedFaults
-mod WorkedNames
-mod WorkedValues
