@@ -1,4 +1,4 @@
-//! What a zone shows for ever is what an [`ZoneTz`](crate::ZoneTz) over its spans shows, and an [`ZoneTable`](crate::ZoneTable) to the
+//! What a zone shows for ever is what a [`ZoneTz`](crate::ZoneTz) over its spans shows, and a [`ZoneTable`](crate::ZoneTable) to the
 //! year 10501.
 ghost use Rattle.std.specs.Prelude.{◌≡◌, ℕ, IsTrue, List, Some, ℤ, pos, ◌+ℤ◌, ◌<ℤ◌};
 ghost use Rattle.civil_base.specs.Instants.{nanos_of, seconds_of};

@@ -126,11 +126,6 @@ impl<'a> Footer<'a> {
         self.saving.is_none()
     }
 
-    /// Whether it has daylight saving time, with a rule for each year.
-    pub(crate) fn is_yearly(&self) -> bool {
-        self.saving.is_some()
-    }
-
     /// The offset of standard time, and that of daylight saving time, or the same once more where there is none.
     pub fn offsets(&self) -> (UtcOffset, UtcOffset)
         ensures standard { result.0 ≡ standard_total (footer_shown self.now) }

@@ -97,7 +97,7 @@ fn recurrence_of(zone: &ZoneFile, footer: &Option<Footer<'_>>) -> Recurrence
         None => Recurrence::Never,
         Some(footer) => {
             let _in_range = footer.offsets().0.whole_seconds();
-            if !footer.is_yearly() {
+            if footer.is_fixed() {
                 return Recurrence::Never;
             }
             if are_over(zone, FIRST_DATED) {
