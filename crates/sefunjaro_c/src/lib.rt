@@ -15,8 +15,6 @@ mod lists;
 mod local_lists;
 mod opened;
 mod sources;
-#[cfg(test)]
-mod tests;
 mod version;
 mod view;
 mod whole;
