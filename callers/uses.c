@@ -412,9 +412,9 @@ static int far_off(void) {
     if (sefunjaro_ring(&zone, &twice, &ring) || ring.second != 13595560200 || ring.offset != 7200) return 10;
     if (sefunjaro_ring(&zone, &skipped, &ring) != SEFUNJARO_NONE) return 11;
     if (sefunjaro_saving_at(&zone, 0, 0, &saving) != SEFUNJARO_NOT_KEPT || saving != 77) return 12;
-    if (sefunjaro_next_change(&zone, 0, &change) != SEFUNJARO_NOT_KEPT || change.second != 77) return 13;
-    if (sefunjaro_changes(&zone, 0, 1, &change, 1, &count) != SEFUNJARO_NOT_KEPT || change.second != 77) return 14;
-    if (sefunjaro_years(&zone, &year) != SEFUNJARO_NOT_KEPT || year != 9) return 27;
+    if (sefunjaro_next_change(&zone, 13576813199, &change) || change.second != 13576813200 || change.offset != 7200 || change.saving != 3600) return 13;
+    if (sefunjaro_changes(&zone, 13576813200, 13595562000, &change, 1, &count) || count != 1 || change.name_length != 4 || !change.differs) return 14;
+    if (sefunjaro_years(&zone, &year) || year != 9999) return 27;
     struct sefunjaro_answer answer;
     if (sefunjaro_answer_at(&zone, 13576813200, 5, &answer, text, 4) || answer.offset != 7200 || !answer.is_saving || answer.is_kept || answer.saving != 0) return 17;
     if (answer.clock.year != 2400 || answer.clock.hour != 3 || answer.clock.nanosecond != 5 || answer.name_length != 4 || memcmp(text, "CEST", 4)) return 18;

@@ -170,12 +170,13 @@ enum sefunjaro_tzif_cause {
 enum sefunjaro_ever_cause {
     SEFUNJARO_EVER_SHAPE = 1,        /* 2102 has changes, and they are not one into daylight saving time and one back to one standard time */
     SEFUNJARO_EVER_OFFSET_RANGE = 2, /* an offset that would be written is past 24:59:59 */
-    SEFUNJARO_EVER_NAME = 3,         /* as SEFUNJARO_TAIL_NAME */
-    SEFUNJARO_EVER_NO_RULE = 4,      /* no string of two days of the week, with times from -167 to 167 hours, says the same for ever */
+    SEFUNJARO_EVER_NAME = 3,         /* an abbreviation that would be written isn't three or more ASCII letters, digits, `+` or `-` */
+    SEFUNJARO_EVER_NO_RULE = 4,      /* no string of two weekdays or dates, with times from -167 to 167 hours, says the same for ever */
     SEFUNJARO_EVER_TIMES = 5,        /* as SEFUNJARO_TZIF_TIMES, of the changes before the string */
     SEFUNJARO_EVER_TYPES = 6,        /* as SEFUNJARO_TZIF_TYPES */
     SEFUNJARO_EVER_NAMES = 7,        /* as SEFUNJARO_TZIF_NAMES */
-    SEFUNJARO_EVER_RULES_END = 8     /* the zone doesn't go on: sefunjaro_years */
+    SEFUNJARO_EVER_RULES_END = 8,    /* the zone doesn't go on: sefunjaro_years */
+    SEFUNJARO_EVER_SAVING = 9        /* it has daylight saving time for good; then a file has no string */
 };
 
 /* Which instant is meant of a local time that has more than one. */
@@ -533,23 +534,24 @@ static inline uint32_t sefunjaro_saving_at(const struct sefunjaro_zone *zone, in
     return sefunjaro_saving_at_by(&copy, second, nanosecond, saving);
 }
 
-/* The last year up to whose end a zone of a source says what is in force: 9999 where it goes on for ever, and 2099 where the lines of its
-   name don't, since a line or a rule ends or begins later, a day of theirs lies in another year, or they come to an offset of 26 hours or
-   more. (Zones of POSIX strings go on for ever, and so do those of files that have a footer.) NOT_OPEN, NOT_KEPT. */
+/* The last year up to whose end a zone says what is in force: 9999 where it goes on for ever or is that of a file or of a POSIX string, and
+   2099 where the lines of its name don't go on, since a line or a rule ends or begins later, a day of theirs lies in another year, or they
+   come to an offset of 26 hours or more. NOT_OPEN. */
 static inline uint32_t sefunjaro_years(const struct sefunjaro_zone *zone, int32_t *year) {
     struct sefunjaro_zone copy = *zone;
     return sefunjaro_years_by(&copy, year);
 }
 
 /* The first change after a second, also where it changes nothing: `differs` tells. Those of a zone that goes on for ever are told up to the
-   end of 10501, and none after it. NOT_OPEN, NOT_KEPT, NONE. */
+   end of 10501, and none after it. The `saving` of a zone of a file or of a POSIX string is an hour where it is daylight saving time, since
+   these say no more. NOT_OPEN, NONE. */
 static inline uint32_t sefunjaro_next_change(const struct sefunjaro_zone *zone, int64_t second, struct sefunjaro_change *change) {
     struct sefunjaro_zone copy = *zone;
     return sefunjaro_next_change_by(&copy, second, change);
 }
 
 /* The changes from the second `from` on and before `to`, by time, and how many there are: none where `from` is not below `to`. Those that
-   change nothing are among them. Those of a zone that goes on for ever are told up to the end of 10501. NOT_OPEN, NOT_KEPT. */
+   change nothing are among them. Those of a zone that goes on for ever are told up to the end of 10501. NOT_OPEN. */
 static inline uint32_t sefunjaro_changes(const struct sefunjaro_zone *zone, int64_t from, int64_t to, struct sefunjaro_change *changes,
                                          size_t room, size_t *count) {
     struct sefunjaro_zone copy = *zone;
@@ -577,8 +579,8 @@ static inline uint32_t sefunjaro_tail(const struct sefunjaro_zone *zone, char *t
 
 /* The zone's TZif file (RFC 8536, version 2), and its whole length: each change up to the end of 2099, and as the footer the string of
    sefunjaro_tail, or nothing where there is none, where the zone changes at or past the end of 2099, of which that string says nothing, or
-   where its daylight saving time ends in the first week of January, so that as a footer the string may end it before 2099 is over. It takes
-   memory: each call writes the file whole, and then as much of it into the room as fits.
+   where its daylight saving time ends in the first week of January, so that as a footer the string may end it before 2099 is over, or where
+   it holds all of 2099, since the string says standard time. It takes memory: each call writes the file whole, and then as much of it into the room as fits.
    NOT_OPEN; NOT_KEPT; NONE, with why there is no file: enum sefunjaro_tzif_cause; NO_MEMORY. */
 static inline uint32_t sefunjaro_tzif(const struct sefunjaro_zone *zone, uint8_t *file, size_t room, size_t *whole,
                                       struct sefunjaro_fault *fault) {

@@ -51,7 +51,6 @@ struct zone {
     PyDateTime_TZInfo base;
     struct sefunjaro_handle lent;
     uint64_t lending;   /* its number, which no other has: what is kept of a zone that was closed is nobody's */
-    bool tells_changes; /* until the library says that it doesn't, as of a file */
 };
 
 /* What is told of a local time. */
@@ -153,14 +152,12 @@ static struct cell *cell_of(PyObject *self, int64_t second) {
 
 /* Puts what lies around the change that is the nearest to a second into a cell, and returns whether it could. */
 static bool fill(PyObject *self, struct cell *cell, int64_t middle) {
-    struct zone *zone = (struct zone *)self;
     struct sefunjaro_change changes[ROOM_OF_CHANGES];
     struct sefunjaro_handle copy = copy_of(self);
     int64_t from = middle - REACH, to = middle + REACH;
     size_t count, of = 0;
     int32_t first;
     uint32_t status = bound.changes(&copy, from, to, changes, ROOM_OF_CHANGES, &count);
-    zone->tells_changes = status != SEFUNJARO_NOT_KEPT;
     if (status != SEFUNJARO_DONE || count > ROOM_OF_CHANGES) {
         return false;
     }
@@ -192,7 +189,7 @@ static bool is_of(PyObject *self, const struct cell *cell) {
 static bool renew(PyObject *self, struct cell *cell, int64_t second) {
     struct zone *zone = (struct zone *)self;
     int64_t place = place_of(second), middle = (place * 2 + 1) * ((int64_t)1 << (BITS_OF_CELL - 1));
-    if (!zone->tells_changes || zone->lending == 0 || (is_of(self, cell) && cell->place == place) || middle < FIRST_SECOND + REACH ||
+    if (zone->lending == 0 || (is_of(self, cell) && cell->place == place) || middle < FIRST_SECOND + REACH ||
         middle >= END_SECOND - REACH) {
         return false;
     }
@@ -548,7 +545,6 @@ static PyObject *zone_lend(PyObject *self, PyObject *fields) {
     struct zone *zone = (struct zone *)self;
     zone->lent = (struct sefunjaro_handle){(void *)(uintptr_t)at, is_open != 0};
     zone->lending = is_open ? ++lendings : 0;
-    zone->tells_changes = true;
     Py_RETURN_NONE;
 }
 

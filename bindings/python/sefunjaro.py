@@ -39,7 +39,6 @@ import functools
 import importlib
 import operator
 import os
-import struct
 import threading
 import weakref
 from typing import (
@@ -99,7 +98,7 @@ TailCause = enum.IntEnum("TailCause", "SHAPE OFFSET_RANGE NAME", module=__name__
 TzifCause = enum.IntEnum("TzifCause", "TIMES TYPES NAMES", module=__name__)
 """Why a zone has no TZif file."""
 
-EverCause = enum.IntEnum("EverCause", "SHAPE OFFSET_RANGE NAME NO_RULE TIMES TYPES NAMES RULES_END", module=__name__)
+EverCause = enum.IntEnum("EverCause", "SHAPE OFFSET_RANGE NAME NO_RULE TIMES TYPES NAMES RULES_END SAVING", module=__name__)
 """Why a zone has no string or no TZif file for ever."""
 
 Fold = enum.IntEnum("Fold", "FIRST SECOND", module=__name__, start=0)
@@ -820,22 +819,6 @@ def zone(name: str) -> "Zone":
     return Zone.named(name)
 
 
-def _is_rule(string: str) -> bool:
-    """Whether a POSIX string that was read has daylight saving time, and so a rule, behind its last name."""
-    return "," in string.rpartition(">")[2]
-
-
-def _kinds_of_file(file: bytes) -> Tuple[int, str]:
-    """How many kinds of time a compiled file that was read has, and its footer."""
-    start, width = 0, 4
-    while True:
-        utc, standard, leaps, times, kinds, letters = struct.unpack_from(">6I", file, start + 20)
-        end = start + 44 + times * (width + 1) + kinds * 6 + letters + leaps * (width + 4) + standard + utc
-        if width == 8 or file[4:5] == b"\0":
-            return kinds, file[end:].decode("latin-1") if width == 8 else ""
-        start, width = end, 8
-
-
 class _ByCtypes(datetime.tzinfo):
     """What a datetime asks of a zone, where it isn't asked in C."""
 
@@ -1013,8 +996,8 @@ class Zone(_Asked, _Opened):
         cls: Type[_OfZone], file: Union[bytes, bytearray, memoryview, str, os.PathLike[str], IO[bytes]], name: Optional[str] = None
     ) -> _OfZone:
         """The zone of a compiled file (TZif, as below /usr/share/zoneinfo), from its bytes, its path or the file that is open, with what
-        its footer says from its last change on. It has no changes and no saving: `dst` is None, and `changes`, `next_change`,
-        `saving_at`, `posix_tail`, `to_tzif` and both for ever raise NotKept.
+        its footer says from its last change on. It keeps no saving: `dst` is None, `saving_at`, `posix_tail`, `to_tzif` and both for
+        ever raise NotKept, and the `saving` of its changes is an hour where it is daylight saving time.
 
         Raises NotRead with its cause, and OSError where the file can't be read."""
         path = None
@@ -1074,8 +1057,7 @@ class Zone(_Asked, _Opened):
     @property
     def last_year(self) -> int:
         """The last year up to whose end the zone says what is in force: 9999 where its lines go on for ever, as those of every zone of the
-        tz database do; else LAST_YEAR, after which no rule fires. Raises NotKept: a zone of a POSIX string goes on for ever, and
-        one of a file does by its footer."""
+        tz database do, and where it is that of a file or of a POSIX string; else LAST_YEAR, after which no rule fires."""
         year = ctypes.c_int32()
         status = self._handle.ask(_years, ctypes.byref(year))
         if status:
@@ -1224,7 +1206,7 @@ class Zone(_Asked, _Opened):
 
     def next_change(self, second: int) -> Optional[Change]:
         """The first change after a second, also where it changes nothing, or None where there is none up to the end of 9999. Raises
-        OutOfRange where 64 bits don't hold the second, and NotKept."""
+        OutOfRange where 64 bits don't hold the second."""
         change = _RawChange()
         handle, second = self._handle, _second(second)
         status = handle.ask(_next_change, second, ctypes.byref(change))
@@ -1370,16 +1352,11 @@ class Zone(_Asked, _Opened):
 
     def _has_no_change(self) -> bool:
         second = -(2**63)
-        try:
-            while True:
-                change = self.next_change(second)
-                if change is None or change.differs:
-                    return change is None
-                second = change.second
-        except NotKept:
-            told = self._origin[1][0] if self._origin else ""
-            kinds, string = (1, told) if isinstance(told, str) else _kinds_of_file(told)
-            return kinds == 1 and not _is_rule(string) and self.in_force(-(2**37)) == self.in_force(2**37)
+        while True:
+            change = self.next_change(second)
+            if change is None or change.differs:
+                return change is None
+            second = change.second
 
     def _utcoffset_of_none(self) -> Optional[datetime.timedelta]:
         return _delta(self.offset_at(0)) if self._never_changes() else None

@@ -40,8 +40,8 @@ impl Zone {
         Ok(saving)
     }
 
-    /// The first change after a second, also where it changes nothing, or none. The zone of a file or of a POSIX string keeps none, as
-    /// [`Zone::keeps_changes`] tells.
+    /// The first change after a second, also where it changes nothing, or none. The saving of a zone of a file or of a POSIX string is an
+    /// hour where it is daylight saving time, since these say no more.
     ///
     /// ```
     /// let zone = sefunjaro::Source::open(b"Zone A 1:00 - A 2000 Jan 1\n 2:00 - B\n")?.zone("A")?;
@@ -58,18 +58,19 @@ impl Zone {
     }
 
     /// The last year up to whose end the zone says what is in force: 9999 where its lines go on for ever, as those of every zone of the tz
-    /// database do; else that of [`rule_years`](crate::rule_years), after which no rule fires.
+    /// database do, and where it is that of a file or of a POSIX string; else that of [`rule_years`](crate::rule_years), after which no rule
+    /// fires.
     ///
     /// # Errors
     ///
-    /// [`Error::NotKept`]: a zone of a POSIX string goes on for ever, and one of a file does by its footer.
+    /// None today.
     ///
     /// ```
     /// use sefunjaro::{Error, Source, Zone};
     ///
     /// assert_eq!(Source::open(b"Zone A 1:00 - A\n")?.zone("A")?.last_year(), Ok(9999));
     /// assert_eq!(Source::open(b"Zone A 1:00 - A 2150\n 2:00 - B\n")?.zone("A")?.last_year(), Ok(2099));
-    /// assert_eq!(Zone::from_posix("AAA0")?.last_year(), Err(Error::NotKept));
+    /// assert_eq!(Zone::from_posix("AAA0")?.last_year(), Ok(9999));
     /// # Ok::<(), Error>(())
     /// ```
     pub fn last_year(&self) -> Result<i32, Error> {
@@ -79,14 +80,14 @@ impl Zone {
         Ok(last)
     }
 
-    /// Whether the zone keeps its changes and their saving: not that of a file or of a POSIX string.
+    /// Whether the zone keeps its saving: not that of a file or of a POSIX string.
     ///
     /// ```
-    /// assert!(sefunjaro::Source::open(b"Zone A 1:00 - A\n")?.zone("A")?.keeps_changes());
-    /// assert!(!sefunjaro::Zone::from_posix("AAA0")?.keeps_changes());
+    /// assert!(sefunjaro::Source::open(b"Zone A 1:00 - A\n")?.zone("A")?.keeps_saving());
+    /// assert!(!sefunjaro::Zone::from_posix("AAA0")?.keeps_saving());
     /// # Ok::<(), sefunjaro::Error>(())
     /// ```
-    pub fn keeps_changes(&self) -> bool {
+    pub fn keeps_saving(&self) -> bool {
         self.saving_at(0, 0) != Err(Error::NotKept)
     }
 

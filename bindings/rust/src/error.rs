@@ -161,6 +161,7 @@ pub enum EverCause {
     Types,
     Names,
     RulesEnd,
+    Saving,
 }
 
 const LINE_CAUSES: [LineCause; 9] = [
@@ -224,7 +225,7 @@ const TAIL_CAUSES: [TailCause; 3] = [TailCause::Shape, TailCause::OffsetRange, T
 
 const TZIF_CAUSES: [TzifCause; 3] = [TzifCause::Times, TzifCause::Types, TzifCause::Names];
 
-const EVER_CAUSES: [EverCause; 8] = [
+const EVER_CAUSES: [EverCause; 9] = [
     EverCause::Shape,
     EverCause::OffsetRange,
     EverCause::Name,
@@ -233,6 +234,7 @@ const EVER_CAUSES: [EverCause; 8] = [
     EverCause::Types,
     EverCause::Names,
     EverCause::RulesEnd,
+    EverCause::Saving,
 ];
 
 /// The cause of a number, which counts from 1.

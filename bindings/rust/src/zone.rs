@@ -84,7 +84,7 @@ impl Zone {
     }
 
     /// Opens the zone of a compiled file (TZif, as below /usr/share/zoneinfo) from its bytes, which are used no more afterwards, with
-    /// what its footer says from its last change on. Its changes and their saving are not kept.
+    /// what its footer says from its last change on. Its saving is not kept.
     ///
     /// # Errors
     ///
@@ -99,7 +99,7 @@ impl Zone {
         Zone::opened(raw::sefunjaro_file_open, bytes)
     }
 
-    /// Opens the zone that a POSIX string stands for at all times. Its changes and their saving are not kept.
+    /// Opens the zone that a POSIX string stands for at all times. Its saving is not kept.
     ///
     /// # Errors
     ///

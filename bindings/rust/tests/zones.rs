@@ -215,7 +215,9 @@ fn files_and_strings() {
         let LocalTime::Skipped(gap) = zone.local_time(&local("2400-03-26 02:30:00.000000000")).unwrap() else { panic!("shown") };
         assert_eq!(gap, Gap { second: 13576813200, before: 3600, after: 7200 });
         assert_eq!(zone.ring(&local("2400-03-26 02:30:00.000000000")), Ok(None));
-        assert_eq!((zone.saving_at(0, 0), zone.next_change(0), zone.keeps_changes()), (Err(Error::NotKept), None, false));
+        assert_eq!((zone.saving_at(0, 0), zone.keeps_saving(), zone.last_year()), (Err(Error::NotKept), false, Ok(9999)));
+        let spring = zone.next_change(13576813199).unwrap();
+        assert_eq!((spring.second, spring.offset, spring.saving), (13576813200, 7200, 3600));
         assert_eq!(zone.share().unwrap().offset_at(13576813200, 0), Ok(7200));
     }
     assert_eq!(Zone::from_tzif(FILE).unwrap().offset_at(-1855958962, 0), Ok(561));

@@ -1,11 +1,11 @@
 -- Worked examples: how long an answer holds. At 1970-01-01 00:00:00 UTC clocks are set ahead from offset 0 to one hour.
-use Rattle.std.{proofs.Common.{◌≡◌, cond, ℕ, ℤ, pos, negsuc, ◌≤ℤ◌, Bool, false, List, [], ◌∷◌, map, int_lt, refl, ap, arith}, specs.Prelude.{None}, proofs.lemmas.Int.{ints}}
+use Rattle.std.{proofs.Common.{◌≡◌, cond, ℕ, ℤ, pos, negsuc, neg_ℤ, ◌≤ℤ◌, Bool, false, true, List, [], ◌∷◌, map, int_lt, refl, ap, arith}, specs.Prelude.{None}, proofs.lemmas.Int.{ints}}
 use Rattle.basics.specs.ComparisonLaws.{lt_fail}
 use Rattle.civil_base.specs.{Instants.{seconds_of}, Layout.{day_part, time_part}}
 use Rattle.tz_lookup.specs.{SecondLaws.{second_is}, declared.set.FixedTimespanSet.{FixedTimespanSet}, Stretches.{least_second}}
 use Rattle.zone_spans.specs.{Entries.{Entry}, declared.span.FixedTimespan.{FixedTimespan}}
-use Rattle.zone_tzif_core.specs.Zones.{KindValue}
-use Rattle.sefunjaro.specs.{Answers.{begun_at, end_second, ended_at, IsAnswer, IsAnswered, IsHeldOn}, Changes.{next_after, settled_changes}, Clocks.{clock_at}, Rooms.{filled}, declared.answer.Answer.{Answer}}
+use Rattle.sefunjaro.specs.{Answers.{begun_at, end_second, ended_at, first_told, keeps_saving, saving_told, IsAnswer, IsAnswered}, Changes.{next_after, settled_changes}, Clocks.{clock_at}, Rooms.{filled}, declared.answer.Answer.{Answer}, declared.zone.Origin.TheVariants.{Source, File}}
+use Rattle.tz_ever.specs.declared.recurrence.Recurrence.TheVariants.{Later, Always}
 
 abbrev jump : ℤ → ℤ
 jump t = cond (int_lt t (pos 0)) (pos 0) (pos 3600)
@@ -81,42 +81,20 @@ abbrev set : FixedTimespanSet
 set = record { name = []; first = span (pos 1); others = entry (pos 10) ∷ entry (pos 20) ∷ entry (pos 20) ∷ entry (pos 269243913601) ∷ [] }
 
 -- before the first entry, at it, before the next, and from it on
-worked_begins : map (begun_at set) (pos 9 ∷ pos 10 ∷ pos 19 ∷ pos 20 ∷ []) ≡ least_second ∷ pos 10 ∷ pos 10 ∷ pos 20 ∷ []
+worked_begins : map (begun_at (first_told Later) set) (pos 9 ∷ pos 10 ∷ pos 19 ∷ pos 20 ∷ []) ≡ least_second ∷ pos 10 ∷ pos 10 ∷ pos 20 ∷ []
 worked_begins = refl
+
+-- of a zone whose changes come again always none is told before the year -10298
+always_begins : map (begun_at (first_told Always) set) (pos 9 ∷ pos 10 ∷ []) ≡ neg_ℤ (pos 387140688000) ∷ pos 10 ∷ []
+always_begins = refl
+
+-- the saving of a source's zone is told, and none of a file's
+worked_savings : saving_told Source (negsuc 3599) ∷ saving_told File (pos 3600) ∷ [] ≡ negsuc 3599 ∷ pos 0 ∷ []
+worked_savings = refl
+
+kept_savings : keeps_saving Source ∷ keeps_saving File ∷ [] ≡ true ∷ false ∷ []
+kept_savings = refl
 
 worked_ends : map (ended_at set) (pos 9 ∷ pos 10 ∷ pos 19 ∷ pos 20 ∷ pos 269243913601 ∷ []) ≡ pos 10 ∷ pos 20 ∷ pos 20 ∷ end_second ∷ end_second ∷ []
 unfolding next_after settled_changes
 worked_ends = refl
-
--- one kind of time at all seconds, and another from 100 on
-abbrev same_kind : ℤ → KindValue
-same_kind second = record { utoff = pos 0; is_dst = false; name = [] }
-
-abbrev changed_kind : ℤ → KindValue
-changed_kind second = record { utoff = cond (int_lt second (pos 100)) (pos 0) (pos 3600); is_dst = false; name = [] }
-
--- it holds to where the other comes
-held_to_change : IsHeldOn changed_kind (pos 5) (answer (pos 5) (pos 100))
-held_to_change = record {
-  from = refl;
-  until = λ near same. absurd (apart (ap (λ (k : KindValue). k.utoff) same));
-  alone = λ far. absurd (omega (arith, far));
-}
-  where
-    apart : ◌≡◌ {A = ℤ} (pos 3600) (pos 0) → ⊥
-    apart e = cc
-
--- and not to a second before that
-not_held_shorter : IsHeldOn changed_kind (pos 5) (answer (pos 5) (pos 99)) → ⊥
-not_held_shorter h = absurd (omega (arith, ints, h.until (omega arith) refl))
-
-not_begun_earlier : IsHeldOn changed_kind (pos 5) (answer (pos 4) (pos 100)) → ⊥
-not_begun_earlier h = absurd (omega (arith, ints, h.from))
-
--- where none comes, past the last year in which changes are looked for
-not_held_short : IsHeldOn same_kind (pos 5) (answer (pos 5) (pos 200000000000)) → ⊥
-not_held_short h = absurd (omega (arith, ints, h.until (omega arith) refl))
-
--- outside these years it is a second alone
-not_held_far : IsHeldOn same_kind (pos 200000000001) (answer (pos 200000000001) (pos 200000000003)) → ⊥
-not_held_far h = absurd (omega (arith, ints, h.alone (omega arith)))

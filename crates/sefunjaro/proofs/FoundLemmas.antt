@@ -3,7 +3,7 @@ use Rattle.std.proofs.{Common.{◌≡◌, ◌∙◌, ◌≤◌, ℕ, cond, List,
 use Rattle.basics.specs.SignedLaws.{signed_casts}
 use Rattle.civil_base.specs.{DateTimes.{instant, local_of, offset_of}, Instants.{instant_at, seconds_of}, Ranges.{far_seconds}, declared.offset_date_time.OffsetDateTime.{OffsetDateTime}}
 use Rattle.tz_lookup.specs.SecondLaws.{IsSecond, one_second, second_is}
-use Rattle.sefunjaro.specs.{Found.{by_fold, found_of, IsFoundOf}, FoundSteps.{by_count}, Rooms.{filled}, declared.found.FoldRule.{FoldRule}, declared.found.FoldRule.TheVariants.{First, Second}, declared.found.Found.{Found}, declared.found.GapRule.{GapRule}}
+use Rattle.sefunjaro.specs.{Gaps.{IsSkippedBy}, declared.gap.Gap.{Gap}, Found.{by_fold, by_gap, found_of, IsFoundOf}, FoundSteps.{by_count}, Rooms.{filled}, declared.found.FoldRule.{FoldRule}, declared.found.FoldRule.TheVariants.{First, Second}, declared.found.Found.{Found}, declared.found.GapRule.{GapRule}}
 use Rattle.sefunjaro.specs.declared.zone.Reading.{Reading}
 
 -- the second of a local time at an offset
@@ -47,3 +47,9 @@ among_is total fold gap x (r ∷ []) new a b d e count found lent n some is =
     is ∙ (λ i. by_count fold (n i) (get_or (lent i) 0 d) (get_or (lent i) 1 e)) ∙ one_of fold r b
 among_is total fold gap x (r ∷ s ∷ rest) new a b d e count found lent n some is =
     is ∙ (λ i. by_count fold (n i) (get_or (lent i) 0 d) (get_or (lent i) 1 e)) ∙ more_of fold r s rest (length (r ∷ s ∷ rest)) (omega arith)
+
+-- of a local time without a reading the rule for gaps takes what it takes of the change that skips it
+pub in_gap_is : (total : ℤ → ℤ) (fold : FoldRule) (rule : GapRule) (x : ℤ) (all : List Reading) (count : ℕ) (gap : Gap) (found : Found) → count ≡ length all
+    → count ≡ 0 → IsSkippedBy total x gap → found ≡ by_gap rule x gap → IsFoundOf total fold rule x all found
+in_gap_is total fold rule x [] count gap found n none skipped is = record { gap = gap; skipped = skipped; is = is }
+in_gap_is total fold rule x (r ∷ rest) count gap found n none skipped is = absurd (omega (arith, n, none))

@@ -1,11 +1,8 @@
 -- Local times that clocks skip.
 use Rattle.std.proofs.{Common.{length, ◌≡◌, ◌+◌, ℕ, Bool, false, filter, Option, ℤ, pos, ◌+ℤ◌, ◌-ℤ◌, ◌*ℤ◌, ◌≤ℤ◌, ◌<ℤ◌, int_le, int_lt, sym, ap, ◌∙◌, subst, arith}, lemmas.Int.{ints}, lemmas.List.{length-map}}
 use Rattle.civil_base.specs.{Instants.{instant_at, local_at, nanos_of, seconds_of}, Ranges.{IsOffset}, RangeLaws.{offset_least, offset_greatest}}
-use Rattle.tz_tzif.specs.{FooterForce.{FooterZone}, Lasting.{IsTold}, InForce.{kind_at, kind_in, told_total_at, total_in}}
-use Rattle.basics.specs.ComparisonLaws.{le_itself}
-use Rattle.zone_spans.specs.Schedules.{Schedule, instants, last_total, total_at}
-use Rattle.tz_lookup.specs.{InForce.{all_in_force, in_force}, InstantLaws.{instants_are}, SecondLaws.{IsSecond, second_is, one_second}, Stretches.{IsStretch}}
-use Rattle.zone_tzif_core.specs.Zones.{ZoneValue}
+use Rattle.zone_spans.specs.Schedules.{instants}
+use Rattle.tz_lookup.specs.{InForce.{all_in_force, in_force}, InstantLaws.{instants_are}, SecondLaws.{IsSecond, second_is, one_second}}
 use Rattle.sefunjaro.specs.{Gaps.{IsSkippedBy}, GapPlaces.{nth_offset, HoldsSeconds, IsNeverRead}}
 
 reads : (x k total : ℤ) → total ≡ k → (instant_at x k +ℤ pos 1000000000 *ℤ total) ≡ x
@@ -61,23 +58,6 @@ skipped_by total x place p second before after holds e s b a less more =
       ahead = is_ahead x k after second here (subst (λ o. k <ℤ o) (sym a) more);
     }
 
-test_same : (a t s : ℤ) → IsSecond t s → int_le (a *ℤ pos 1000000000) t ≡ int_le (a *ℤ pos 1000000000) (nanos_of s)
-test_same a t s h = grind (arith, ints, h.low, h.high)
-
--- the shifts of a schedule lie on whole seconds
-pub schedule_holds : (schedule : Schedule) → HoldsSeconds (total_at schedule)
-unfolding HoldsSeconds total_at
-schedule_holds schedule t =
-    ap (λ (p : ℤ × ℤ → Bool). last_total schedule.first (filter p schedule.shifts)) (λ i shift. test_same shift.0 t (seconds_of t) (second_is t) i)
-
-pub whole_second : (s : ℤ) → seconds_of (nanos_of s) ≡ s
-whole_second s = one_second (nanos_of s) _ s (second_is (nanos_of s)) (record { low = omega (arith, ints); high = omega (arith, ints) })
-
--- a file speaks of seconds alone
-pub file_holds : (value : ZoneValue) (footer : Option FooterZone) → HoldsSeconds (told_total_at value footer)
-unfolding HoldsSeconds kind_at
-file_holds value footer t = ap (λ s. (kind_in value footer s).utoff) (sym (whole_second (seconds_of t)))
-
 -- a local time without an instant is never shown
 pub never_read : (total : ℤ → ℤ) (x : ℤ) → ((t : ℤ) → IsOffset (total t)) → length (all_in_force total x) ≡ 0 → IsNeverRead total x
 unfolding IsNeverRead all_in_force
@@ -103,13 +83,3 @@ skipped_at total x shown second from until before after holds is begun later sam
       behind = passes x until shown before here behind;
       ahead = stays x until shown after here ahead;
     }
-
--- what a zone of a file tells of a second, and how long, is a stretch
-pub stretch_told : (value : ZoneValue) (footer : Option FooterZone) (s offset until : ℤ) → IsTold (total_in value footer) s offset until
-    → IsStretch (told_total_at value footer) s (record { from = s; until = until; offset = offset })
-unfolding kind_at
-stretch_told value footer s offset until told = record {
-  begun = le_itself s;
-  here = ap (total_in value footer) (whole_second s) ∙ told.here;
-  throughout = λ u low high. ap (total_in value footer) (whole_second u) ∙ told.same u low high;
-}

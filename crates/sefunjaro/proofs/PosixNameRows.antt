@@ -1,15 +1,7 @@
 -- Worked examples: which names POSIX has a place for.
 use Rattle.std.{proofs.Common.{◌≡◌, true, false, refl, [], ◌∷◌, map}, specs.Prelude.{List, ℕ, Option, Some, None, codes}}
 use Rattle.tz_posix.specs.{declared.date.Date.TheVariants.{M}, declared.time.Time.{Time}, Values.{TzValue, expanded}}
-use Rattle.sefunjaro.specs.PosixNames.{has_posix_names, is_posix_name, is_posix_string}
-
--- two letters, an underscore, letters past ASCII (in UTF-8) and a space are none
-others : map is_posix_name (codes "CD" ∷ codes "A_B" ∷ (195 ∷ 132 ∷ 195 ∷ 132 ∷ []) ∷ codes "A B" ∷ []) ≡ false ∷ false ∷ false ∷ false ∷ []
-others = refl
-
--- letters of either size, digits, and signs are
-theirs : map is_posix_name (codes "EST" ∷ codes "abz" ∷ codes "-03" ∷ codes "+0530" ∷ codes "A09" ∷ []) ≡ true ∷ true ∷ true ∷ true ∷ true ∷ []
-theirs = refl
+use Rattle.sefunjaro.specs.PosixNames.{has_posix_names, is_posix_string}
 
 abbrev named : List ℕ → List ℕ → TzValue
 named standard saving =

@@ -1,13 +1,13 @@
--- How long the answer of a zone of a source holds: from the last entry on, and up to the next change.
+-- How long the answer of a zone holds: from the last entry on, and up to the next change.
 use Rattle.std.proofs.{Common.{◌≡◌, ◌<◌, ◌≤◌, ◌∙◌, ℕ, zero, suc, Bool, true, false, cond, ℤ, ◌<ℤ◌, List, [], ◌∷◌, length, map, filter, drop, int_le, int_lt, refl, sym, ap, subst, ⊎_elim, arith}, lemmas.Bool.{cases_lt}, lemmas.List.{length-map}}
 use Rattle.std.proofs.lemmas.Option.{same_Some, none-some}
-use Rattle.std.specs.{Prelude.{Option, Some, None, option_map, IfSome}, List.{slice_get}, Ordering.{int_eq}}
+use Rattle.std.specs.{Int.{int_max}, Prelude.{Option, Some, None, option_map, IfSome}, List.{slice_get}, Ordering.{int_eq}}
 use Rattle.basics.specs.ComparisonLaws.{eq_from_pass, le_pass, le_fail, lt_pass}
 use Rattle.civil_base.specs.Instants.{seconds_of}
 use Rattle.zone_spans.specs.Entries.{Entry}
 use Rattle.tz_lookup.specs.{Sets.{shift_of, shifts_of}, Spans.{shift_at, IsCut}, declared.set.FixedTimespanSet.{FixedTimespanSet}, Stretches.{least_second, begin_second}}
 use Rattle.sefunjaro.specs.{Answers.{begun_at, end_second, ended_at, last_second, second_of_change, up_to_end, IsBetween}, AnswerSteps.{IsAround, IsToldBySpan}, Changes.{change_of, changes_of, next_after, settled_changes}}
-use Rattle.sefunjaro.specs.declared.{answer.Answer.{Answer}, answer.Around.{Around}, changes.Change.{Change}}
+use Rattle.sefunjaro.specs.declared.{answer.Answer.{Answer}, answer.Around.{Around}, changes.Change.{Change}, zone.Origin.{Origin}}
 use Rattle.sefunjaro.proofs.ChangeLemmas.{left_after, none_next}
 
 -- ---- from the last entry on
@@ -34,12 +34,12 @@ last_passed test least (e ∷ es) (suc k) l before after =
     ∙ last_passed test e.0 es k (omega (arith, l)) (λ j m. before (suc j) (omega (arith, m))) (λ j m n. after (suc j) (omega (arith, m)) (omega (arith, n)))
     ∙ one_on least e es k
 
-begun : (set : FixedTimespanSet) (second : ℤ) (k : ℕ) → IsCut (shifts_of set) k second
-    → begun_at set second ≡ begin_second least_second (shifts_of set) k
-begun set second k cut =
+begun : (first : ℤ) (set : FixedTimespanSet) (second : ℤ) (k : ℕ) → IsCut (shifts_of set) k second
+    → begun_at first set second ≡ int_max first (begin_second least_second (shifts_of set) k)
+begun first set second k cut =
     let size = length-map set.others shift_of in
-    last_passed (λ s. int_le s second) least_second set.others k (omega (arith, cut.within, size))
-    (λ j l. le_pass _ second (cut.before j l)) (λ j l m. le_fail _ second (cut.after j l (omega (arith, m, size))))
+    ap (int_max first) (last_passed (λ s. int_le s second) least_second set.others k (omega (arith, cut.within, size))
+    (λ j l. le_pass _ second (cut.before j l)) (λ j l m. le_fail _ second (cut.after j l (omega (arith, m, size)))))
 
 -- ---- up to the next change
 -- the second of the first of some changes that come after a second
@@ -83,11 +83,11 @@ none_is : (set : FixedTimespanSet) (second : ℤ) (k : ℕ) → IsCut (shifts_of
 none_is set second k cut l =
     ap second_of_change (none_next set second k (left_after set set.others k second cut) (omega (arith, l, length-map set.others shift_of)))
 
-pub between : (set : FixedTimespanSet) (second : ℤ) (answer : Answer) (around : Around) → IsAround set second around → answer.from ≡ around.from → answer.until ≡ around.until
-    → IsBetween set second answer
-between set second answer around is from until =
+pub between : (first : ℤ) (set : FixedTimespanSet) (second : ℤ) (answer : Answer) (around : Around) → IsAround first set second around → answer.from ≡ around.from → answer.until ≡ around.until
+    → IsBetween first set second answer
+between first set second answer around is from until =
     let cut = is.throughout second is.begun is.lasts in record {
-      from = from ∙ is.from ∙ sym (begun set second around.span cut);
+      from = from ∙ is.from ∙ sym (begun first set second around.span cut);
       until = until ∙ ⊎_elim {C = around.until ≡ ended_at set second}
           (λ l. is.until l ∙ next_is set second around.span cut l)
           (λ l. is.at_end l ∙ none_is set second around.span cut l)
@@ -95,7 +95,7 @@ between set second answer around is from until =
     }
 
 -- an answer by a span holds between two entries
-pub held : (set : FixedTimespanSet) (t : ℤ) (old new : List ℕ) (result : Option Answer) → IsToldBySpan set t old new result
-    → IfSome result (IsBetween set (seconds_of t))
-held set t old new None told = tt
-held set t old new (Some answer) told = between set (seconds_of t) answer told.around told.is_around told.made.from told.made.until
+pub held : (origin : Origin) (first : ℤ) (set : FixedTimespanSet) (t : ℤ) (old new : List ℕ) (result : Option Answer) → IsToldBySpan origin first set t old new result
+    → IfSome result (IsBetween first set (seconds_of t))
+held origin first set t old new None told = tt
+held origin first set t old new (Some answer) told = between first set (seconds_of t) answer told.around told.is_around told.made.from told.made.until

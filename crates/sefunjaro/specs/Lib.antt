@@ -2,7 +2,6 @@
 pub mod AnySources
 pub mod Answers
 pub mod Answered
-pub mod Any
 pub mod Asked
 pub mod Causes
 pub mod Changes

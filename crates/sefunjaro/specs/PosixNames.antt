@@ -1,14 +1,7 @@
 -- Strings in whose names there is nothing that POSIX has no place for, and those in which nothing is.
-use Rattle.std.specs.{Prelude.{ℕ, Bool, false, true, ◌&&◌, ◌||◌, ◌==◌, nat_le, List, length, Option, Some, None}, Char.{is_ascii_alphabetic, is_ascii_digit}, List.{list_all}}
-use Rattle.tz_posix.specs.{Marks.{plus_sign, minus_sign}, Spells.{Spells}, Values.{DstPart, TzValue, short, expanded}, declared.time.Time.{Time}, declared.values.Rule.{Rule}}
-
--- an ASCII letter or digit, `+` or `-`
-abbrev pub is_posix_byte : ℕ → Bool
-is_posix_byte c = is_ascii_alphabetic c || is_ascii_digit c || c == plus_sign || c == minus_sign
-
--- three such bytes or more
-abbrev pub is_posix_name : List ℕ → Bool
-is_posix_name name = nat_le 3 (length name) && list_all is_posix_byte name
+use Rattle.std.specs.Prelude.{ℕ, Bool, false, true, ◌&&◌, nat_le, List, Option, Some, None}
+use Rattle.tz_posix.specs.{Spells.{Spells}, Values.{DstPart, TzValue, short, expanded}, declared.time.Time.{Time}, declared.values.Rule.{Rule}}
+use Rattle.zone_tail.specs.Tails.{is_posix_name}
 
 abbrev pub is_saving_named : Option (DstPart Time) → Bool
 is_saving_named None = true

@@ -6,11 +6,14 @@ use Rattle.zone_table.specs.declared.table.Table.{Table}
 use Rattle.tz_ever.specs.{InForce.{span_at}, Opens.{DoesNotGoOn, IsFoundForEver, IsTooFarLater}, Recurrences.{ZoneGives, zone_span, zone_total}, Unrolled.{told}, ZoneShown.{recurrence_of, zone_set_of}, declared.zone_set.ZoneSet.{ZoneSet}}
 use Rattle.tz_ever.specs.declared.{recurrence.Recurrence.{Recurrence}, recurrence.Recurrence.TheVariants.{Never, Later, Always}}
 use Rattle.tz_lookup.specs.{Compiles.{IsCompiledAs, spans_of}, Sets.{schedule_of}, declared.set.FixedTimespanSet.{FixedTimespanSet}, CompactShown.{seen}, declared.compact_set.CompactSet.{CompactSet}}
-use Rattle.sefunjaro.specs.declared.zone.OpenZone.{OpenZone}
+use Rattle.sefunjaro.specs.declared.zone.{OpenZone.{OpenZone}, Origin.{Origin}, Origin.TheVariants.{Source, File}}
 
 -- the set of all its changes that are kept, and whether they come again
 abbrev pub all_in : OpenZone → FixedTimespanSet
 all_in zone = zone_set_of zone.zone
+
+abbrev pub origin_in : OpenZone → Origin
+origin_in zone = zone.origin
 
 abbrev pub recurrence_in : OpenZone → Recurrence
 recurrence_in zone = recurrence_of zone.zone
@@ -58,8 +61,11 @@ GoesOnAs table name (Some zone) = IsFoundForEver table name (zone_set_of zone)
 GoesOnAs table name None = DoesNotGoOn table name ⊎ IsTooFarLater table name
 
 -- the seconds east of UTC that are in force at an instant, in nanoseconds from 1970-01-01 00:00:00 UTC
+abbrev pub kept_total : ZoneSet → ℤ → ℤ
+kept_total zone = zone_total (recurrence_of zone) (zone_set_of zone)
+
 abbrev pub total_in : OpenZone → ℤ → ℤ
-total_in zone = zone_total (recurrence_in zone) (all_in zone)
+total_in zone = kept_total zone.zone
 
 -- an abbreviation is in force at an instant, with a saving above 0 or without one
 abbrev pub given_in : OpenZone → ℤ → List ℕ → Bool → Type 0
@@ -82,8 +88,10 @@ IsAsCompiled zone = (t : ℤ) → t <ℤ pos 4099444800000000000 → ShowsAt zon
 abbrev pub spans_in : OpenZone → FixedTimespanSet
 spans_in zone = told (recurrence_in zone) (all_in zone)
 
--- the last year up to whose end it says what is in force: the last of all years, or the last that a set is worked out for
-abbrev pub last_year : Recurrence → ℤ
-last_year Never = pos latest_year
-last_year Later = pos 9999
-last_year Always = pos 9999
+-- the last year up to whose end it says what is in force: the last of all years, or of a source's zone that ends the last that a set is
+-- worked out for
+abbrev pub last_year : Origin → Recurrence → ℤ
+last_year Source Never = pos latest_year
+last_year Source Later = pos 9999
+last_year Source Always = pos 9999
+last_year File recurrence = pos 9999

@@ -243,6 +243,7 @@ fn of_ever_tail(fault: EverTailFault) -> Error
     ensures { result ≡ of_ever_tail fault }
 {
     match fault {
+        EverTailFault::Saving => Error::EverTail(EverTailFault::Saving),
         EverTailFault::Shape => Error::EverTail(EverTailFault::Shape),
         EverTailFault::OffsetRange => Error::EverTail(EverTailFault::OffsetRange),
         EverTailFault::Name => Error::EverTail(EverTailFault::Name),

@@ -1,19 +1,16 @@
 //! One instant of each of many local times, by rules for those that clocks show more than once or never.
-ghost use Rattle.std.specs.Prelude.{◌≡◌, ◌<◌, ℤ, IfSome, MatchOption, length, slice_index_or};
-ghost use Rattle.civil_base.specs.{Instants.{nanos_of}, Ranges.{IsInYears}};
-ghost use Rattle.tz_tzif.specs.{InForce.{told_total_at}, Zones.{value_of, says_of}};
-ghost use Rattle.tz_lookup.specs.Stretches.{IsKnown, IsStretch};
-ghost use Rattle.sefunjaro.specs.{Answered.{AreReadings}, Clocks.{clock_shown}, Found.{by_gap, by_offset, AreFound, AreLocalTimes, AreToldOf, IsFirstFaulty, IsFound}, FoundSteps.{by_count, IsOnly}, Steadiness.{IsSteady}, Zones.{total_in}};
+ghost use Rattle.std.specs.Prelude.{◌≡◌, ◌<◌, IfSome, MatchOption, length, slice_index_or};
+ghost use Rattle.tz_lookup.specs.Stretches.{IsKnown};
+ghost use Rattle.sefunjaro.specs.{Clocks.{clock_shown}, Found.{by_gap, by_offset, AreFound, AreLocalTimes, AreToldOf, IsFirstFaulty, IsFound}, FoundSteps.{by_count, IsOnly}, Steadiness.{IsSteady}, Zones.{total_in}};
 
 use crate::clock::Clock;
 use crate::gap::Gap;
-use crate::offsets::{Stretches, UNKNOWN};
+use crate::offsets::{UNKNOWN, stretch_at};
 use crate::shown::is_in_years;
-use crate::zone::{OpenZone, Reading, lent_readings};
+use crate::zone::{OpenZone, Reading};
 use civil_base::PlainDateTime;
 use tz_ever::laws;
 use tz_lookup::Stretch;
-use tz_tzif::TzifTz;
 
 /// Which instant of a local time is meant that clocks show more than once.
 #[derive(Clone, Copy, Debug, PartialEq, Eq)]
@@ -59,78 +56,11 @@ const NO_GAP: Gap = Gap {
     after: 0,
 };
 
-/// A zone that tells all instants of a local time, or the change that skips it.
-pub(crate) trait LocalTimes {
-    /// The total in force at an instant.
-    ghost total_at: { Self → ℤ → ℤ };
-
-    /// The instants, as far as they fit, and how many there are; where there is none the change is told.
-    fn all_readings(&self, local: &PlainDateTime, room: &mut [Reading], gap: &mut Gap) -> usize
-        ensures { AreReadings (total_at self.now) local.now room.old room.new result gap.new };
-
-    /// The total at a second, and seconds around it at which it is the same.
-    fn stretch_at(&self, second: i64) -> Stretch
-        requires { IsInYears (nanos_of second) }
-        ensures { IsStretch (total_at self.now) second result };
-
-    /// A law: one total is in force throughout each second, and each is an offset.
-    fn is_steady(&self)
-        ensures { IsSteady (total_at self.now) };
-}
-
-impl LocalTimes for OpenZone {
-    ghost total_at = { λ zone. total_in zone };
-
-    fn all_readings(&self, local: &PlainDateTime, room: &mut [Reading], gap: &mut Gap) -> usize {
-        source_readings(self, local, room, gap)
-    }
-
-    fn stretch_at(&self, second: i64) -> Stretch {
-        source_stretch(self, second)
-    }
-
-    fn is_steady(&self) {
-        laws::zone_holds_in_seconds();
-    }
-}
-
-/// The readings of a zone of a source, or the change that skips a local time.
-pub(crate) fn source_readings(
-    zone: &OpenZone,
-    local: &PlainDateTime,
-    room: &mut [Reading],
-    gap: &mut Gap,
-) -> usize
-    ensures answer { AreReadings (total_in zone.now) local.now room.old room.new result gap.new }
-    ensures gap { 0 < result → gap.new ≡ gap.old }
+/// A law: one total is in force throughout each second, and each is an offset.
+fn is_steady(zone: &OpenZone)
+    ensures { IsSteady (total_in zone.now) }
 {
-    let count = zone.readings(local, room);
-    if count == 0 {
-        *gap = zone.gap(local);
-    }
-    count
-}
-
-/// The total of a zone of a source at a second, and seconds around it at which it is the same.
-pub(crate) fn source_stretch(zone: &OpenZone, second: i64) -> Stretch
-    requires { IsInYears (nanos_of second) }
-    ensures { IsStretch (total_in zone.now) second result }
-{
-    zone.zone.around(second)
-}
-
-impl<'a> LocalTimes for TzifTz<'a> {
-    ghost total_at = { λ zone. told_total_at (value_of zone) (says_of zone) };
-
-    fn all_readings(&self, local: &PlainDateTime, room: &mut [Reading], gap: &mut Gap) -> usize {
-        lent_readings(self, local, room, gap)
-    }
-
-    fn stretch_at(&self, second: i64) -> Stretch {
-        self.around(second)
-    }
-
-    fn is_steady(&self) {}
+    laws::zone_holds_in_seconds();
 }
 
 /// One instant of each of some local times, by the rules, in their order, as far as they fit.
@@ -138,14 +68,14 @@ impl<'a> LocalTimes for TzifTz<'a> {
 /// # Errors
 ///
 /// The place, from 0, of the first parts that are no local time. The room is then as it was.
-pub(crate) fn instants_of<Z: LocalTimes>(
-    zone: &Z,
+pub(crate) fn instants_of(
+    zone: &OpenZone,
     clocks: &[Clock],
     fold: FoldRule,
     gap: GapRule,
     room: &mut [Found],
 ) -> Result<(), usize>
-    ensures { AreToldOf (Z.total_at zone.now) fold gap clocks.now room.old room.new result }
+    ensures { AreToldOf (total_in zone.now) fold gap clocks.now room.old room.new result }
 {
     match faulty_place(clocks) {
         Some(place) => Err(place),
@@ -169,15 +99,9 @@ fn faulty_place(clocks: &[Clock]) -> Option<usize>
 }
 
 /// One instant of each of parts that are all local times.
-fn fill_found<Z: LocalTimes>(
-    zone: &Z,
-    clocks: &[Clock],
-    fold: FoldRule,
-    gap: GapRule,
-    room: &mut [Found],
-)
+fn fill_found(zone: &OpenZone, clocks: &[Clock], fold: FoldRule, gap: GapRule, room: &mut [Found])
     requires { AreLocalTimes clocks.now }
-    ensures { AreFound (Z.total_at zone.now) fold gap clocks.now room.old room.new }
+    ensures { AreFound (total_in zone.now) fold gap clocks.now room.old room.new }
 {
     let mut known = UNKNOWN;
     for i in 0..clocks.len().min(room.len()) {
@@ -188,17 +112,17 @@ fn fill_found<Z: LocalTimes>(
 }
 
 /// One instant of a local time, by a stretch of the zone where it lies well within that.
-fn find_by<Z: LocalTimes>(
-    zone: &Z,
+fn find_by(
+    zone: &OpenZone,
     known: &Stretch,
     local: &PlainDateTime,
     fold: FoldRule,
     gap: GapRule,
 ) -> Found
-    requires { IsKnown (Z.total_at zone.now) known.now }
-    ensures { IsFound (Z.total_at zone.now) fold gap local.now result }
+    requires { IsKnown (total_in zone.now) known.now }
+    ensures { IsFound (total_in zone.now) fold gap local.now result }
 {
-    zone.is_steady();
+    is_steady(zone);
     match only_instant(known, local) {
         Some(found) => found,
         None => find(zone, local, fold, gap),
@@ -210,9 +134,9 @@ const AROUND: i64 = 300_000;
 
 /// A stretch in which a local time may lie well within: the last one where it does, or the one that the zone tells of a second some
 /// days earlier; one of no seconds where that second lies outside the years.
-fn stretch_near<Z: LocalTimes>(zone: &Z, known: Stretch, local: &PlainDateTime) -> Stretch
-    requires { IsKnown (Z.total_at zone.now) known }
-    ensures { IsKnown (Z.total_at zone.now) result }
+fn stretch_near(zone: &OpenZone, known: Stretch, local: &PlainDateTime) -> Stretch
+    requires { IsKnown (total_in zone.now) known }
+    ensures { IsKnown (total_in zone.now) result }
 {
     let second = local.assume_utc().unix_timestamp();
     if known.from <= second - AROUND && second + AROUND < known.until {
@@ -223,11 +147,11 @@ fn stretch_near<Z: LocalTimes>(zone: &Z, known: Stretch, local: &PlainDateTime) 
 }
 
 /// The stretch that a zone tells of a second, or one of no seconds where it lies outside the years.
-fn stretch_from<Z: LocalTimes>(zone: &Z, second: i64) -> Stretch
-    ensures { IsKnown (Z.total_at zone.now) result }
+fn stretch_from(zone: &OpenZone, second: i64) -> Stretch
+    ensures { IsKnown (total_in zone.now) result }
 {
     if is_in_years(second) {
-        zone.stretch_at(second)
+        stretch_at(&zone.zone, second)
     } else {
         UNKNOWN
     }
@@ -265,12 +189,12 @@ fn local_in(clocks: &[Clock], place: usize) -> PlainDateTime
 }
 
 /// One instant of a local time.
-fn find<Z: LocalTimes>(zone: &Z, local: &PlainDateTime, fold: FoldRule, gap: GapRule) -> Found
-    ensures { IsFound (Z.total_at zone.now) fold gap local.now result }
+fn find(zone: &OpenZone, local: &PlainDateTime, fold: FoldRule, gap: GapRule) -> Found
+    ensures { IsFound (total_in zone.now) fold gap local.now result }
 {
     let mut readings = [NO_READING; 2];
     let mut skip = NO_GAP;
-    let count = zone.all_readings(local, &mut readings, &mut skip);
+    let count = zone.readings_or_gap(local, &mut readings, &mut skip);
     if count == 0 {
         in_gap(local, &skip, gap)
     } else {

@@ -1,11 +1,12 @@
 //! The change by which clocks skip a local time.
 ghost use Rattle.std.specs.Prelude.{◌≡◌, ◌-◌, ◌<◌, ◌+ℤ◌, ◌≤ℤ◌, ◌<ℤ◌, IfSome, IsTrue, int_lt};
 ghost use Rattle.civil_base.specs.{DateTimes.{instant}, Instants.{instant_at, nanos_of}, Ranges.{IsInYears}};
-ghost use Rattle.sefunjaro.specs.{Gaps.{IsSkippedBy}, GapPlaces.{nth_offset, HoldsSeconds, IsNeverRead}};
+ghost use Rattle.sefunjaro.specs.{Gaps.{IsSkippedBy}, GapPlaces.{nth_offset, HoldsSeconds, IsNeverRead}, Zones.{kept_total}};
 
-use crate::offsets::Stretches;
+use crate::offsets::stretch_at;
 use crate::shown::is_in_years;
 use civil_base::{OffsetDateTime, PlainDateTime, UtcOffset};
+use tz_ever::ZoneSet;
 use tz_lookup::{Offset, TimeZone};
 
 /// A change by which clocks are set ahead over a local time.
@@ -28,9 +29,9 @@ const MOST_CHANGES: usize = 8;
 
 /// The change by which the clocks of a zone skip a local time, where it is one of the few within 26 hours before the time by UTC and after
 /// it.
-pub(crate) fn near_gap<Z: Stretches>(zone: &Z, local: &PlainDateTime) -> Option<Gap>
-    requires { HoldsSeconds (Z.total_at zone.now) }
-    ensures { IfSome result (IsSkippedBy (Z.total_at zone.now) local.now) }
+pub(crate) fn near_gap(zone: &ZoneSet, local: &PlainDateTime) -> Option<Gap>
+    requires { HoldsSeconds (kept_total zone.now) }
+    ensures { IfSome result (IsSkippedBy (kept_total zone.now) local.now) }
 {
     let shown = local.assume_utc().unix_timestamp();
     let mut second = shown - i64::from(SPREAD);
@@ -38,11 +39,11 @@ pub(crate) fn near_gap<Z: Stretches>(zone: &Z, local: &PlainDateTime) -> Option<
         if !is_in_years(second) {
             return None;
         }
-        let before = zone.longest(second);
+        let before = stretch_at(zone, second);
         if before.until <= second || !is_in_years(before.until) {
             return None;
         }
-        let after = zone.around(before.until).offset;
+        let after = stretch_at(zone, before.until).offset;
         if is_skipped(shown, before.until, before.offset, after) {
             return Some(Gap {
                 second: before.until,

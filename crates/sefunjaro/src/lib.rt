@@ -1,7 +1,7 @@
 //! Sefunjaro as one library: a source in plain form or in any opened, a zone of it, of a compiled file or of a POSIX string, and
 //! asked both ways; its changes, its saving, its rings, the string that carries it on and its file.
 //!
-//! Sources and zones are opened once and asked many times ([`OpenSource`], [`OpenZone`], [`FileZone`], [`AnyZone`]), as a program in
+//! Sources and zones are opened once and asked many times ([`OpenSource`], [`OpenZone`]), as a program in
 //! another language holds them: what is asked is answered in plain numbers, lists and texts go as far as the caller's room, and no
 //! question takes memory but those for the string and the file. Beside them stand the calls over tables and sets by which a zone is
 //! opened step by step ([`open_source`], [`open_zone`]), and the names that most callers need, from the crates where they are defined
@@ -38,7 +38,7 @@ pub use civil_base::{
 };
 pub use clock::Clock;
 pub use error::Error;
-pub use file::{FileFault, FileZone, PosixFault};
+pub use file::{FileFault, PosixFault};
 pub use found::{FoldRule, Found, GapRule};
 pub use gap::Gap;
 pub use opening::{open_database, open_source, open_zone};
@@ -53,8 +53,8 @@ pub use tz_lookup::{
     TimeZone, Tz, TzFault, ZoneFault,
 };
 pub use tz_posix::PosixTz;
-pub use tz_tzif::{TzifFault, TzifTz};
-pub use zone::{AnyZone, InForce, OpenZone, Reading};
+pub use tz_tzif::TzifFault;
+pub use zone::{InForce, OpenZone, Origin, Reading};
 pub use zone_alarm::{AlarmFault, Ring, alarms};
 pub use zone_line::LineParser;
 pub use zone_list::{ListFault, Listing, lines_of, list_lines};

@@ -1,13 +1,11 @@
 //! Whether POSIX has a place for the names in a string, and for its times.
-ghost use Rattle.std.specs.{Prelude.{◌≡◌, IsTrue, option_map}, List.{list_all}};
+ghost use Rattle.std.specs.Prelude.{◌≡◌, IsTrue, option_map};
 ghost use Rattle.tz_posix.specs.{Shown.{dst_shown, tz_shown}, Spells.{Spells}, Values.{TzValue}};
-ghost use Rattle.sefunjaro.specs.PosixNames.{has_posix_names, has_posix_times, is_posix_byte, is_posix_name, is_posix_rule, is_posix_string, is_posix_time, is_saving_named, is_saving_timed, IsSpelled};
+ghost use Rattle.sefunjaro.specs.PosixNames.{has_posix_names, has_posix_times, is_posix_rule, is_posix_string, is_posix_time, is_saving_named, is_saving_timed, IsSpelled};
 
 use tz_posix::laws::one_reading;
 use tz_posix::{Dst, Rule, Time, Tz, entry};
-
-/// The fewest bytes of a name.
-const FEWEST: usize = 3;
+use zone_tail::parts::is_posix_name;
 
 /// Whether each name in a POSIX TZ string is one that POSIX has a place for: three bytes or more, ASCII letters, digits, `+` and `-`.
 /// The grammar here takes others too, as `<CD>-2` and `<A_B>-5`, which the GNU C library reads as UTC.
@@ -96,18 +94,4 @@ fn is_saving_named(saving: &Option<Dst<'_>>) -> bool
         Some(saving) => is_posix_name(saving.name),
         None => true,
     }
-}
-
-fn is_posix_name(name: &str) -> bool
-    ensures { result ≡ is_posix_name name.now }
-{
-    FEWEST <= name.len() && has_posix_bytes(name)
-}
-
-fn has_posix_bytes(name: &str) -> bool
-    ensures { result ≡ list_all is_posix_byte name.now }
-{
-    name.as_bytes().iter().all(|byte| {
-        byte.is_ascii_alphabetic() || byte.is_ascii_digit() || *byte == b'+' || *byte == b'-'
-    })
 }

@@ -115,9 +115,9 @@ fn differing_within(
 }
 
 impl ReplyZone for OpenZone {
-    ghost use Rattle.sefunjaro.specs.{Replies.{reply_view}, Zones.{all_in, recurrence_in}};
+    ghost use Rattle.sefunjaro.specs.{Replies.{reply_view}, Zones.{all_in, origin_in, recurrence_in}};
 
-    ghost view = { λ zone. reply_view (recurrence_in zone) (all_in zone) };
+    ghost view = { λ zone. reply_view (origin_in zone) (recurrence_in zone) (all_in zone) };
 
     fn last_year(&self) -> i32 {
         OpenZone::last_year(self)

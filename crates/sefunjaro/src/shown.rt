@@ -1,12 +1,13 @@
 //! What clocks show at many seconds, and the texts of it.
 ghost use Rattle.std.specs.Prelude.{◌≡◌, ℤ, IsTrue, ◌≤◌, ◌*◌, ◌++◌, ◌∷◌, [], length};
 ghost use Rattle.civil_base.specs.{DateTimes.{local_of}, Instants.{instant_at, local_at, nanos_of}, Layout.{day_part, time_part, offset_text, zoned_text}, Ranges.{is_in_years, IsInYears, IsOffset}};
-ghost use Rattle.sefunjaro.specs.{Clocks.{clock_at}, Rooms.{filled, filled_from}, Shown.{clocks_of, is_shown, most_texts, textless_place, texts_of, unshown_place, AreClocks, AreShown, AreTexts}};
+ghost use Rattle.sefunjaro.specs.{Clocks.{clock_at}, Rooms.{filled, filled_from}, Shown.{clocks_of, is_shown, most_texts, textless_place, texts_of, unshown_place, AreClocks, AreShown, AreTexts}, Zones.{kept_total}};
 
 use crate::clock::Clock;
-use crate::offsets::{Stretches, UNKNOWN, next, second_at};
+use crate::offsets::{UNKNOWN, next, second_at, stretch_at};
 use crate::room::{fill_from, put};
 use civil_base::{OffsetDateTime, PlainDateTime, UtcOffset, spaced_offset, write_local};
+use tz_ever::ZoneSet;
 
 /// -9999-01-01 00:00:00 UTC.
 const FIRST: i64 = -377_705_116_800;
@@ -26,12 +27,8 @@ const MOST_TEXTS: usize = 288_230_376_151_711_744;
 ///
 /// The place, from 0, of the first second that lies outside the years -9999 to 9999 in UTC, or whose local date does. The room is then as
 /// it was.
-pub(crate) fn clocks_at<Z: Stretches>(
-    zone: &Z,
-    seconds: &[i64],
-    room: &mut [Clock],
-) -> Result<(), usize>
-    ensures { AreClocks (Z.total_at zone.now) seconds.now room.old room.new result }
+pub(crate) fn clocks_at(zone: &ZoneSet, seconds: &[i64], room: &mut [Clock]) -> Result<(), usize>
+    ensures { AreClocks (kept_total zone.now) seconds.now room.old room.new result }
 {
     match unshown_place(zone, seconds) {
         Some(place) => Err(place),
@@ -48,12 +45,8 @@ pub(crate) fn clocks_at<Z: Stretches>(
 ///
 /// The place, from 0, of the first second that lies outside the years -9999 to 9999 in UTC, or whose local date does; of more than 2^58
 /// seconds that of the first too many. The room is then as it was.
-pub(crate) fn texts_at<Z: Stretches>(
-    zone: &Z,
-    seconds: &[i64],
-    room: &mut [u8],
-) -> Result<usize, usize>
-    ensures { AreTexts (Z.total_at zone.now) seconds.now room.old room.new result }
+pub(crate) fn texts_at(zone: &ZoneSet, seconds: &[i64], room: &mut [u8]) -> Result<usize, usize>
+    ensures { AreTexts (kept_total zone.now) seconds.now room.old room.new result }
 {
     match textless_place(zone, seconds) {
         Some(place) => Err(place),
@@ -63,8 +56,8 @@ pub(crate) fn texts_at<Z: Stretches>(
 
 /// The place of the first second without a text, or of the first too many.
 #[tactic(auto, unfolding(crate::specs::Shown::textless_place))]
-fn textless_place<Z: Stretches>(zone: &Z, seconds: &[i64]) -> Option<usize>
-    ensures { result ≡ textless_place (Z.total_at zone.now) seconds.now }
+fn textless_place(zone: &ZoneSet, seconds: &[i64]) -> Option<usize>
+    ensures { result ≡ textless_place (kept_total zone.now) seconds.now }
 {
     if seconds.len() <= MOST_TEXTS {
         unshown_place(zone, seconds)
@@ -75,21 +68,21 @@ fn textless_place<Z: Stretches>(zone: &Z, seconds: &[i64]) -> Option<usize>
 
 /// The place of the first second that clocks don't show.
 #[tactic(auto, unfolding(crate::specs::Shown::unshown_place))]
-fn unshown_place<Z: Stretches>(zone: &Z, seconds: &[i64]) -> Option<usize>
-    ensures { result ≡ unshown_place (Z.total_at zone.now) seconds.now }
+fn unshown_place(zone: &ZoneSet, seconds: &[i64]) -> Option<usize>
+    ensures { result ≡ unshown_place (kept_total zone.now) seconds.now }
 {
     seconds.iter().position(|second| !is_shown(zone, *second))
 }
 
 /// Whether a second lies in the years -9999 to 9999 in UTC, and its date by the clocks of a zone. One that lies further inside than
 /// any offset is looked up nowhere.
-fn is_shown<Z: Stretches>(zone: &Z, second: i64) -> bool
-    ensures { result ≡ is_shown (Z.total_at zone.now) second }
+fn is_shown(zone: &ZoneSet, second: i64) -> bool
+    ensures { result ≡ is_shown (kept_total zone.now) second }
 {
     if is_inside(second) {
         true
     } else if is_in_years(second) {
-        has_local_date(second, zone.around(second).offset)
+        has_local_date(second, stretch_at(zone, second).offset)
     } else {
         false
     }
@@ -118,9 +111,9 @@ pub fn is_in_years(second: i64) -> bool
 }
 
 /// What clocks show at seconds at all of which they show something.
-fn fill_clocks<Z: Stretches>(zone: &Z, seconds: &[i64], room: &mut [Clock])
-    requires { AreShown (Z.total_at zone.now) seconds.now }
-    ensures { room.new ≡ filled (clocks_of (Z.total_at zone.now) seconds.now) room.old }
+fn fill_clocks(zone: &ZoneSet, seconds: &[i64], room: &mut [Clock])
+    requires { AreShown (kept_total zone.now) seconds.now }
+    ensures { room.new ≡ filled (clocks_of (kept_total zone.now) seconds.now) room.old }
 {
     let mut known = UNKNOWN;
     for i in 0..seconds.len() {
@@ -131,11 +124,11 @@ fn fill_clocks<Z: Stretches>(zone: &Z, seconds: &[i64], room: &mut [Clock])
 }
 
 /// The texts of seconds that all have one, and their whole length.
-fn fill_texts<Z: Stretches>(zone: &Z, seconds: &[i64], room: &mut [u8]) -> usize
-    requires shown { AreShown (Z.total_at zone.now) seconds.now }
+fn fill_texts(zone: &ZoneSet, seconds: &[i64], room: &mut [u8]) -> usize
+    requires shown { AreShown (kept_total zone.now) seconds.now }
     requires few { length seconds.now ≤ most_texts }
-    ensures room { room.new ≡ filled (texts_of (Z.total_at zone.now) seconds.now) room.old }
-    ensures whole { result ≡ length (texts_of (Z.total_at zone.now) seconds.now) }
+    ensures room { room.new ≡ filled (texts_of (kept_total zone.now) seconds.now) room.old }
+    ensures whole { result ≡ length (texts_of (kept_total zone.now) seconds.now) }
 {
     let mut known = UNKNOWN;
     let mut east = east_of(0);

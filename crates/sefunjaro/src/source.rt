@@ -68,7 +68,8 @@ impl OpenSource {
     ghost use Rattle.tz_lookup.specs.{Databases.{names_of}, Compiles.{compiled_in, IsZoneFault}, Sets.{schedule_of, IsAccepted}};
     ghost use Rattle.zone_table.specs.{BoundedTables.{IsBoundedTable}, Tables.{IsTableOf}};
     ghost use Rattle.zone_source.specs.{Faults.{source_fault}, Zones.{values_of}, Releases.{release_of}};
-    ghost use Rattle.sefunjaro.specs.{Faults.{IsOpenFault, IsReadFault}, Sources.{table_in, release_in}, Zones.{ever_in, recurrence_in, recurrence_with, set_in, GoesOnAs, IsAsCompiled, IsOpened}, declared.source.OpenFault.TheVariants.{NoMemory}};
+    ghost use Rattle.sefunjaro.specs.{Faults.{IsOpenFault, IsReadFault}, Sources.{table_in, release_in}, Zones.{ever_in, origin_in, recurrence_in, recurrence_with, set_in, GoesOnAs, IsAsCompiled, IsOpened}, declared.source.OpenFault.TheVariants.{NoMemory}};
+    ghost use Rattle.sefunjaro.specs.declared.zone.Origin.TheVariants.{Source};
 
     /// Opens a source from its text in plain form, and in no other.
     ///
@@ -188,6 +189,7 @@ impl OpenSource {
         ensures goes_on { IfOk result (λ zone. GoesOnAs (table_in self.now) name.now (ever_in zone)) }
         ensures recurs { IfOk result (λ zone. recurrence_in zone ≡ recurrence_with (ever_in zone)) }
         ensures as_compiled { IfOk result IsAsCompiled }
+        ensures origin { IfOk result (λ zone. origin_in zone ≡ Source) }
         ensures err { IfErr result (IsZoneFault (compiled_in (table_in self.now) name.now)) }
     {
         let set = compile_zone(alloc, &self.table, name)?;

@@ -92,9 +92,11 @@ fn tail_text(fault: TailFault) -> &'static str {
 /// Why no string carries a zone on for ever.
 fn ever_tail_text(fault: EverTailFault) -> &'static str {
     match fault {
+        EverTailFault::Saving => "the zone has daylight saving time for good, and no footer",
         EverTailFault::Shape => "the years of the zone are those of no footer",
         EverTailFault::OffsetRange => "an offset of the zone is past what a footer can say",
-        EverTailFault::Name => "an abbreviation of the zone is none of a footer",
+        EverTailFault::Name =>
+            "an abbreviation of the zone isn't three or more letters, digits, + or -",
         EverTailFault::NoRule => "no footer says what the rules of the zone say for ever",
         EverTailFault::NoMemory => NO_MEMORY,
     }

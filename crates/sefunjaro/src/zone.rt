@@ -1,16 +1,14 @@
 //! A zone of any kind that is kept open, and what it is asked.
 ghost use Rattle.std.specs.{Prelude.{◌≡◌, ◌<◌, length, map, option_map, IfOk}, List.{slice_get}};
 ghost use Rattle.civil_base.specs.DateTimes.{instant};
-ghost use Rattle.tz_tzif.specs.{InForce.{told_total_at}, Zones.{value_of, says_of}};
 ghost use Rattle.tz_lookup.specs.{CompactShown.{seen}, InForce.{all_in_force, shown_of}, Sets.{schedule_of, IsAccepted}};
-ghost use Rattle.sefunjaro.specs.{Answered.{AreReadings}, Gaps.{IsSkippedBy}, Asked.{reading_of, IsNamed}, Rooms.{filled}};
-ghost use Rattle.tz_ever.specs.{Recurrences.{zone_total}, ZoneShown.{recurrence_of, zone_set_of}, declared.recurrence.Recurrence.TheVariants.{Always, Later, Never}};
+ghost use Rattle.sefunjaro.specs.{Gaps.{IsSkippedBy}, Asked.{reading_of, IsNamed}, Rooms.{filled}};
+ghost use Rattle.tz_ever.specs.{Recurrences.{zone_total, RepeatsAs}, ZoneShown.{recurrence_of, zone_set_of}, declared.recurrence.Recurrence.TheVariants.{Later, Never}};
 
 use crate::answer::{Answer, answer_at};
 use crate::changes::{Change, changes, next_change, saving_at};
 use crate::clock::Clock;
-use crate::file::FileZone;
-use crate::found::{FoldRule, Found, GapRule, instants_of, source_readings};
+use crate::found::{FoldRule, Found, GapRule, instants_of};
 use crate::gap::{Gap, find_gap, near_gap};
 use crate::offsets::offsets_at;
 use crate::room::{fill, put};
@@ -22,38 +20,9 @@ use tz_lookup::{
     AllInstants, CompactFault, CompactSet, FixedTimespanSet, InstantsOf, Offset, OffsetDateTimeExt,
     PrimitiveDateTimeExt, TimeZone,
 };
-use tz_tzif::TzifTz;
 use zone_spans::{EARLIEST_YEAR, MOST_YEARS};
 
-/// The readings of a zone, or the change that skips a local time.
-pub(crate) fn lent_readings(
-    zone: &TzifTz<'_>,
-    local: &PlainDateTime,
-    room: &mut [Reading],
-    gap: &mut Gap,
-) -> usize
-    ensures answer { AreReadings (told_total_at (value_of zone.now) (says_of zone.now)) local.now room.old room.new result gap.new }
-    ensures gap { 0 < result → gap.new ≡ gap.old }
-{
-    let count = readings(zone, local, room);
-    if count == 0 {
-        *gap = lent_gap(zone, local);
-    }
-    count
-}
-
-/// The change by which the clocks of a zone of a file skip a local time that they never show.
-fn lent_gap(zone: &TzifTz<'_>, local: &PlainDateTime) -> Gap
-    requires { length (all_in_force (told_total_at (value_of zone.now) (says_of zone.now)) local.now) ≡ 0 }
-    ensures { IsSkippedBy (told_total_at (value_of zone.now) (says_of zone.now)) local.now result }
-{
-    match near_gap(zone, local) {
-        Some(gap) => gap,
-        None => find_gap(zone, local),
-    }
-}
-
-/// The same of a zone that is told by its changes.
+/// The change by which the clocks of a zone skip a local time that they never show.
 fn zone_gap(zone: &ZoneSet, local: &PlainDateTime) -> Gap
     requires { length (all_in_force (zone_total (recurrence_of zone.now) (zone_set_of zone.now)) local.now) ≡ 0 }
     ensures { IsSkippedBy (zone_total (recurrence_of zone.now) (zone_set_of zone.now)) local.now result }
@@ -64,6 +33,9 @@ fn zone_gap(zone: &ZoneSet, local: &PlainDateTime) -> Gap
         None => find_gap(&ZoneTz::new(zone), local),
     }
 }
+
+/// -10298-01-01 00:00:00 UTC: from then on the changes of a zone are listed that come again always.
+const FIRST_TOLD: i64 = -387_140_688_000;
 
 /// What is in force in a zone.
 #[derive(Clone, Copy, Debug, PartialEq, Eq)]
@@ -142,170 +114,34 @@ pub(crate) fn first_reading<T: TimeZone>(zone: &T, local: &PlainDateTime) -> Opt
     local.assume_timezone(zone).take_first()
 }
 
-/// A zone of any kind, which is asked the same.
-#[derive(Debug, Drop)]
-pub enum AnyZone {
-    /// The zone of a name in a source.
-    Source(OpenZone),
-    /// The zone of a compiled file, or of a POSIX string.
-    File(FileZone),
+/// Where a zone comes from.
+#[derive(Clone, Copy, Debug, PartialEq, Eq)]
+pub enum Origin {
+    /// A name of a source.
+    Source,
+    /// A compiled file or a POSIX string, which says only whether it is daylight saving time, and not by how much clocks are set ahead.
+    File,
 }
 
-impl AnyZone {
-    ghost use Rattle.std.specs.Prelude.{IfSome};
-    ghost use Rattle.civil_base.specs.DateTimes.{instant};
-    ghost use Rattle.sefunjaro.specs.{Answered.{first_of, IsInForce, IsShown}, Answers.{IsAnswered, TellsSaving, TellsUntil}, Any.{Seen}, Found.{AreToldOf}, Offsets.{offsets_of, AreInYears}, Rooms.{filled}, Shown.{AreClocks, AreTexts}};
-
-    /// The seconds east of UTC that are in force at an instant.
-    pub fn offset_at(&self, at: &OffsetDateTime) -> i32
-        ensures { Seen self.now (λ total _. result ≡ total (instant at.now)) }
-    {
-        match self {
-            AnyZone::Source(zone) => zone.offset_at(at),
-            AnyZone::File(zone) => zone.offset_at(at),
-        }
-    }
-
-    /// The seconds east of UTC that are in force at each of some seconds from 1970-01-01 00:00:00 UTC, in their order, as far as they fit
-    /// in the room. By UTC each lies in the years -9999 to 9999.
-    pub fn offsets_at(&self, seconds: &[i64], room: &mut [i32])
-        requires { AreInYears seconds.now }
-        ensures { Seen self.now (λ total _. room.new ≡ filled (offsets_of total seconds.now) room.old) }
-    {
-        match self {
-            AnyZone::Source(zone) => zone.offsets_at(seconds, room),
-            AnyZone::File(zone) => zone.offsets_at(seconds, room),
-        }
-    }
-
-    /// What clocks show at each of some seconds from 1970-01-01 00:00:00 UTC, in their order, as far as it fits in the room.
-    ///
-    /// # Errors
-    ///
-    /// The place, from 0, of the first second that lies outside the years -9999 to 9999 in UTC, or whose local date does. The room is then
-    /// as it was.
-    pub fn clocks_at(&self, seconds: &[i64], room: &mut [Clock]) -> Result<(), usize>
-        ensures { Seen self.now (λ total _. AreClocks total seconds.now room.old room.new result) }
-    {
-        match self {
-            AnyZone::Source(zone) => zone.clocks_at(seconds, room),
-            AnyZone::File(zone) => zone.clocks_at(seconds, room),
-        }
-    }
-
-    /// The zoned texts of some seconds from 1970-01-01 00:00:00 UTC, one after another, each with a line feed behind it, as far as they
-    /// fit in the room, and their whole length.
-    ///
-    /// # Errors
-    ///
-    /// The place, from 0, of the first second that lies outside the years -9999 to 9999 in UTC, or whose local date does; of more than
-    /// 2^58 seconds that of the first too many. The room is then as it was.
-    pub fn texts_at(&self, seconds: &[i64], room: &mut [u8]) -> Result<usize, usize>
-        ensures { Seen self.now (λ total _. AreTexts total seconds.now room.old room.new result) }
-    {
-        match self {
-            AnyZone::Source(zone) => zone.texts_at(seconds, room),
-            AnyZone::File(zone) => zone.texts_at(seconds, room),
-        }
-    }
-
-    /// All that the zone says of an instant, with seconds around it throughout which that holds: of a zone of a source those in which no
-    /// entry of it lies, up to the end of 10501, and of any other as [`FileZone::answer_at`] tells. The abbreviation goes into the room, as far
-    /// as it fits. There is no answer exactly where the local date lies outside the years -9999 to 9999.
-    pub fn answer_at(&self, at: &OffsetDateTime, room: &mut [u8]) -> Option<Answer>
-        ensures answer { Seen self.now (λ total gives. IsAnswered total gives (instant at.now) room.old room.new result) }
-        ensures saving { IfSome result (TellsSaving self.now) }
-        ensures until { IfSome result (TellsUntil self.now (instant at.now)) }
-    {
-        match self {
-            AnyZone::Source(zone) => zone.answer_at(at, room),
-            AnyZone::File(zone) => zone.answer_at(at, room),
-        }
-    }
-
-    /// What is in force at an instant. The abbreviation goes into the room, as far as it fits.
-    pub fn in_force(&self, at: &OffsetDateTime, room: &mut [u8]) -> InForce
-        ensures { Seen self.now (λ total gives. IsInForce total gives (instant at.now) result room.old room.new) }
-    {
-        match self {
-            AnyZone::Source(zone) => zone.in_force(at, room),
-            AnyZone::File(zone) => zone.in_force(at, room),
-        }
-    }
-
-    /// The instant at the offset in force. There is none exactly where the local date lies outside the years -9999 to 9999.
-    pub fn shown_at(&self, at: &OffsetDateTime) -> Option<OffsetDateTime>
-        ensures { Seen self.now (λ total _. IsShown total (instant at.now) result) }
-    {
-        match self {
-            AnyZone::Source(zone) => zone.shown_at(at),
-            AnyZone::File(zone) => zone.shown_at(at),
-        }
-    }
-
-    /// All instants at which clocks show a local time, by time, as far as they fit in the room, and how many there are. Where
-    /// there is none, the change that skips the local time is told.
-    pub fn readings(&self, local: &PlainDateTime, room: &mut [Reading], gap: &mut Gap) -> usize
-        ensures answer { Seen self.now (λ total _. AreReadings total local.now room.old room.new result gap.new) }
-        ensures gap { 0 < result → gap.new ≡ gap.old }
-    {
-        match self {
-            AnyZone::Source(zone) => source_readings(zone, local, room, gap),
-            AnyZone::File(zone) => zone.readings(local, room, gap),
-        }
-    }
-
-    /// One instant of each of some local times, in their order, as far as they fit in the room: of one with more than one instant that
-    /// of the rule for folds, of one that clocks skip that of the rule for gaps.
-    ///
-    /// # Errors
-    ///
-    /// The place, from 0, of the first parts that are no local time. The room is then as it was.
-    pub fn instants_of(
-        &self,
-        clocks: &[Clock],
-        fold: FoldRule,
-        gap: GapRule,
-        room: &mut [Found],
-    ) -> Result<(), usize>
-        ensures { Seen self.now (λ total _. AreToldOf total fold gap clocks.now room.old room.new result) }
-    {
-        match self {
-            AnyZone::Source(zone) => zone.instants_of(clocks, fold, gap, room),
-            AnyZone::File(zone) => zone.instants_of(clocks, fold, gap, room),
-        }
-    }
-
-    /// The ring of a daily alarm on the day and at the time of day of a local time: the first of the instants at which clocks
-    /// show it, or none where they skip it.
-    pub fn ring(&self, local: &PlainDateTime) -> Option<Reading>
-        ensures { Seen self.now (λ total _. result ≡ first_of total local.now) }
-    {
-        match self {
-            AnyZone::Source(zone) => zone.ring(local),
-            AnyZone::File(zone) => zone.ring(local),
-        }
-    }
-}
-
-/// A zone that owns all that it is asked for.
+/// A zone that owns all that it is asked for, wherever it comes from: of a name in a source, of a compiled file, or of a POSIX string.
 ///
-/// Where its changes come again it says what is in force in each year from -9999 to 9999; else with its rules up to the end of 2099:
-/// [`last_year`](OpenZone::last_year) tells.
+/// Where its changes come again, and where it is of a file or a string, it says what is in force in each year from -9999 to 9999; else with
+/// its rules up to the end of 2099: [`last_year`](OpenZone::last_year) tells.
 #[derive(Debug, Drop)]
 pub struct OpenZone {
     pub(crate) zone: ZoneSet,
     to_2099: Option<CompactSet>,
-    ghost ends: { recurrence_of zone ≡ Always → ⊥ },
+    origin: Origin,
 }
 
 impl OpenZone {
-    ghost use Rattle.std.specs.{Prelude.{◌≡◌, ◌≤ℤ◌, ◌<ℤ◌, ℤ, true, IfOk, IfSome, is_some, length, map, option_map}, List.{slice_get}};
+    ghost use Rattle.std.specs.{Prelude.{◌≡◌, ◌<◌, ◌≤ℤ◌, neg_ℤ, pos, IfOk, IfSome, is_some, length, map, option_map}, List.{slice_get}};
     ghost use Rattle.civil_base.specs.{DateTimes.{instant}, Instants.{local_at}, Ranges.{is_in_years}, Instants.{seconds_of}};
     ghost use Rattle.tz_ever.specs.{ZoneShown.{recurrence_of}, declared.recurrence.Recurrence.TheVariants.{Later}};
     ghost use Rattle.tz_lookup.specs.{InForce.{all_in_force, in_force as force_at, shown_of}, Sets.{schedule_of, IsAccepted}, CompactShown.{seen}, CompactZones.{compact_of}};
-    ghost use Rattle.sefunjaro.specs.{Answers.{IsAnswered, IsBetween}, Asked.{reading_of, IsNamed}, Changes.{next_after, saving_at as saving_of, window}, Found.{AreToldOf}, Gaps.{IsSkippedBy}, Offsets.{offsets_of, AreInYears}, Rooms.{filled}};
-    ghost use Rattle.sefunjaro.specs.{Shown.{AreClocks, AreTexts}, Zones.{ever_in, given_in, last_year, recurrence_in, recurrence_with, set_in, spans_in, total_in}};
+    ghost use Rattle.sefunjaro.specs.{Answered.{AreReadings}, Answers.{first_told, IsAnswered, TellsSaving, TellsUntil}, Asked.{reading_of, IsNamed}, Changes.{next_after, saving_at as saving_of, window}, Found.{AreToldOf}, Gaps.{IsSkippedBy}, Offsets.{offsets_of, AreInYears}, Rooms.{filled}};
+    ghost use Rattle.sefunjaro.specs.{Shown.{AreClocks, AreTexts}, Zones.{all_in, ever_in, given_in, last_year, origin_in, recurrence_in, recurrence_with, set_in, spans_in, total_in}};
+    ghost use Rattle.sefunjaro.specs.declared.zone.Origin.TheVariants.{File, Source};
 
     /// A set that can be looked up, kept compactly, or what goes on for ever with that set beside it.
     pub(crate) fn of_set(
@@ -317,18 +153,47 @@ impl OpenZone {
         requires later { IfSome for_ever (λ zone. recurrence_of zone ≡ Later) }
         ensures set { IfOk result (λ zone. set_in zone ≡ set.now) }
         ensures ever { IfOk result (λ zone. ever_in zone ≡ for_ever) }
+        ensures origin { IfOk result (λ zone. origin_in zone ≡ Source) }
         ensures recurs { IfOk result (λ zone. recurrence_in zone ≡ recurrence_with (ever_in zone)) }
     {
         match for_ever {
             Some(zone) => Ok(OpenZone {
                 zone,
                 to_2099: Some(compact_of(alloc, set)?),
+                origin: Origin::Source,
             }),
             None => Ok(OpenZone {
-                zone: zone_of(alloc, set)?,
+                zone: zone_of(alloc, set, Recurrence::Never)?,
                 to_2099: None,
+                origin: Origin::Source,
             }),
         }
+    }
+
+    /// The zone of a file's spans, whose changes come again as that says.
+    pub(crate) fn of_spans(
+        alloc: Global,
+        set: &FixedTimespanSet,
+        recurrence: Recurrence,
+    ) -> Result<OpenZone, AllocError>
+        requires accepted { IsAccepted (schedule_of set.now) }
+        requires repeats { RepeatsAs recurrence set.now }
+        ensures set { IfOk result (λ zone. all_in zone ≡ set.now) }
+        ensures origin { IfOk result (λ zone. origin_in zone ≡ File) }
+        ensures recurs { IfOk result (λ zone. recurrence_in zone ≡ recurrence) }
+    {
+        Ok(OpenZone {
+            zone: zone_of(alloc, set, recurrence)?,
+            to_2099: None,
+            origin: Origin::File,
+        })
+    }
+
+    /// Where it comes from.
+    pub fn origin(&self) -> Origin
+        ensures { result ≡ origin_in self.now }
+    {
+        self.origin
     }
 
     /// The set that says what is in force up to the end of 2099.
@@ -341,14 +206,14 @@ impl OpenZone {
         }
     }
 
-    /// The last year up to whose end it says what is in force: 9999 where its changes come again, and else 2099.
+    /// The last year up to whose end it says what is in force: 9999 where its changes come again or it is of a file or a string, and else
+    /// 2099.
     pub fn last_year(&self) -> i32
-        ensures { result ≡ last_year (recurrence_in self.now) }
+        ensures { result ≡ last_year (origin_in self.now) (recurrence_in self.now) }
     {
-        match self.zone.recurrence() {
-            Recurrence::Never => i32::from(EARLIEST_YEAR + MOST_YEARS - 1),
-            Recurrence::Later => 9999,
-            Recurrence::Always => 9999,
+        match (self.origin, self.zone.recurrence()) {
+            (Origin::Source, Recurrence::Never) => i32::from(EARLIEST_YEAR + MOST_YEARS - 1),
+            _ => 9999,
         }
     }
 
@@ -383,7 +248,8 @@ impl OpenZone {
     ///
     /// # Errors
     ///
-    /// As [`AnyZone::clocks_at`].
+    /// The place, from 0, of the first second that lies outside the years -9999 to 9999 in UTC, or whose local date does. The room is then
+    /// as it was.
     pub fn clocks_at(&self, seconds: &[i64], room: &mut [Clock]) -> Result<(), usize>
         ensures { AreClocks (total_in self.now) seconds.now room.old room.new result }
     {
@@ -395,24 +261,43 @@ impl OpenZone {
     ///
     /// # Errors
     ///
-    /// As [`AnyZone::texts_at`].
+    /// The place, from 0, of the first second that lies outside the years -9999 to 9999 in UTC, or whose local date does; of more than
+    /// 2^58 seconds that of the first too many. The room is then as it was.
     pub fn texts_at(&self, seconds: &[i64], room: &mut [u8]) -> Result<usize, usize>
         ensures { AreTexts (total_in self.now) seconds.now room.old room.new result }
     {
         texts_at(&self.zone, seconds, room)
     }
 
-    /// All that the zone says of an instant, with the seconds around it in which no entry of the zone lies, up to the end of 10501. The
-    /// abbreviation goes into the room, as far as it fits. There is no answer exactly where the local date lies outside the years -9999 to
-    /// 9999.
+    /// All that the zone says of an instant, with the seconds around it in which no entry of the zone lies, from the year -10298 on where
+    /// its changes come again always, up to the end of 10501. The abbreviation goes into the room, as far as it fits. There is no answer
+    /// exactly where the local date lies outside the years -9999 to 9999.
     pub fn answer_at(&self, at: &OffsetDateTime, room: &mut [u8]) -> Option<Answer>
         ensures answer { IsAnswered (total_in self.now) (given_in self.now) (instant at.now) room.old room.new result }
-        ensures saving { IfSome result (λ answer. (answer.is_kept ≡ true) × ((u : ℤ) → answer.from ≤ℤ u → u <ℤ answer.until → saving_of (spans_in self.now) u ≡ answer.saving)) }
-        ensures until { IfSome result (IsBetween (spans_in self.now) (seconds_of (instant at.now))) }
+        ensures saving { IfSome result (TellsSaving self.now) }
+        ensures until { IfSome result (TellsUntil self.now (instant at.now)) }
     {
         laws::told_shows();
         laws::of_each_set(&self.zone);
-        answer_at(&ZoneTable::new(&self.zone), at, room)
+        answer_at(
+            &ZoneTable::new(&self.zone),
+            at,
+            self.first_told(),
+            self.origin,
+            room,
+        )
+    }
+
+    /// The second from which on its entries are told.
+    fn first_told(&self) -> i64
+        ensures is { result ≡ first_told (recurrence_in self.now) }
+        ensures early { result ≤ℤ neg_ℤ (pos 387140688000) }
+    {
+        match self.zone.recurrence() {
+            Recurrence::Never => i64::MIN,
+            Recurrence::Later => i64::MIN,
+            Recurrence::Always => FIRST_TOLD,
+        }
     }
 
     /// What is in force at an instant. The abbreviation goes into the room, as far as it fits.
@@ -425,7 +310,7 @@ impl OpenZone {
 
     /// The saving that is in force at a second from 1970-01-01 00:00:00 UTC, in seconds: what the clocks are set ahead of
     /// standard time by. It is below 0 where winter time is the one with a saving. From the end of 10501 on it is that of the last
-    /// change up to then.
+    /// change up to then. A file says only whether it is daylight saving time: there it is an hour, or 0.
     pub fn saving_at(&self, second: i64) -> i64
         ensures { result ≡ saving_of (spans_in self.now) second }
     {
@@ -465,11 +350,29 @@ impl OpenZone {
         readings(&ZoneTz::new(&self.zone), local, room)
     }
 
-    /// One instant of each of some local times, in their order, as far as they fit in the room, by the rules.
+    /// The same, and where there is none the change that skips the local time.
+    pub fn readings_or_gap(
+        &self,
+        local: &PlainDateTime,
+        room: &mut [Reading],
+        gap: &mut Gap,
+    ) -> usize
+        ensures answer { AreReadings (total_in self.now) local.now room.old room.new result gap.new }
+        ensures gap { 0 < result → gap.new ≡ gap.old }
+    {
+        let count = self.readings(local, room);
+        if count == 0 {
+            *gap = self.gap(local);
+        }
+        count
+    }
+
+    /// One instant of each of some local times, in their order, as far as they fit in the room: of one with more than one instant that
+    /// of the rule for folds, of one that clocks skip that of the rule for gaps.
     ///
     /// # Errors
     ///
-    /// As [`AnyZone::instants_of`].
+    /// The place, from 0, of the first parts that are no local time. The room is then as it was.
     pub fn instants_of(
         &self,
         clocks: &[Clock],
@@ -522,13 +425,18 @@ fn compact_of(alloc: Global, set: &FixedTimespanSet) -> Result<CompactSet, Alloc
     }
 }
 
-/// The zone of such a set, whose changes don't come again.
-fn zone_of(alloc: Global, set: &FixedTimespanSet) -> Result<ZoneSet, AllocError>
-    requires { IsAccepted (schedule_of set.now) }
+/// The zone of such a set, whose changes come again as that says.
+fn zone_of(
+    alloc: Global,
+    set: &FixedTimespanSet,
+    recurrence: Recurrence,
+) -> Result<ZoneSet, AllocError>
+    requires accepted { IsAccepted (schedule_of set.now) }
+    requires repeats { RepeatsAs recurrence set.now }
     ensures set { IfOk result (λ zone. zone_set_of zone ≡ set.now) }
-    ensures never { IfOk result (λ zone. recurrence_of zone ≡ Never) }
+    ensures recurs { IfOk result (λ zone. recurrence_of zone ≡ recurrence) }
 {
-    match ZoneSet::build(alloc, set, Recurrence::Never) {
+    match ZoneSet::build(alloc, set, recurrence) {
         Ok(zone) => Ok(zone),
         Err(CompactFault::NoMemory) => Err(AllocError),
         Err(CompactFault::OffsetRange | CompactFault::Falling | CompactFault::Bound) =>

@@ -5,9 +5,9 @@ use Rattle.zone_source.specs.Faults as source
 use Rattle.zone_table.specs.declared.table.Table.{Table}
 use Rattle.tz_lookup.specs.{Compiles.{compiled_in, IsZoneFault}, declared.compile.ZoneFault.{ZoneFault}, Databases.{refusal_of, zone_refusal}}
 use Rattle.tz_lookup.specs.declared.compile.ZoneFault.TheVariants as zone
-use Rattle.sefunjaro.specs.{Faults.{IsOpenFault}, declared.source.OpenFault.{OpenFault}, declared.source.OpenSource.{OpenSource}}
+use Rattle.sefunjaro.specs.{Faults.{IsOpenFault}, declared.source.OpenFault.{OpenFault}, declared.source.OpenSource.{OpenSource}, declared.zone.OpenZone.{OpenZone}}
 use Rattle.sefunjaro.specs.declared.source.OpenFault.TheVariants as opening
-use Rattle.sefunjaro_c.specs.{Held.{IsSource}, Statuses.{not_text, too_long}, declared.opened.Opened.{Opened}, declared.opened.Opened.TheVariants.{Source, Zone}, Faults.{fault_told, told_or_memory, opening_told, zone_told, plain, source_due, zone_due, IsRefused}}
+use Rattle.sefunjaro_c.specs.{Held.{IsSource, IsZone}, Statuses.{not_text, too_long}, declared.opened.Opened.{Opened}, declared.opened.Opened.TheVariants.{Source, Zone}, Faults.{fault_told, told_or_memory, opening_told, zone_told, plain, source_due, zone_due, IsRefused}}
 
 pub told_positive : (fault : SourceFault) → 0 < (fault_told fault).status
 told_positive (source.not_text n) = omega arith
@@ -69,3 +69,7 @@ pub held_source : (P : OpenSource → Type 0) (source : OpenSource) (opened : Op
     → IsSource P opened
 held_source P source (Source held) p e = subst P (sym e) p
 held_source P source (Zone shared) p e = absurd e
+
+pub held_zone : (P : OpenZone → Type 0) (zone : OpenZone) (opened : Opened) → P zone → IsZone (λ held. held ≡ zone) opened → IsZone P opened
+held_zone P zone (Zone shared) p e = subst P (sym e) p
+held_zone P zone (Source held) p e = absurd e

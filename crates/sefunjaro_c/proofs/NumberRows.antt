@@ -70,7 +70,7 @@ tzif_numbers = refl
 ever_numbers : (codes "SHAPE", (ever_tail_told ever.Shape).cause) ∷ (codes "OFFSET_RANGE", (ever_tail_told ever.OffsetRange).cause)
     ∷ (codes "NAME", (ever_tail_told ever.Name).cause) ∷ (codes "NO_RULE", (ever_tail_told ever.NoRule).cause)
     ∷ (codes "TIMES", (ever_file_told written.Times).cause) ∷ (codes "TYPES", (ever_file_told written.Types).cause)
-    ∷ (codes "NAMES", (ever_file_told written.Names).cause) ∷ (codes "RULES_END", rules_end.cause) ∷ []
+    ∷ (codes "NAMES", (ever_file_told written.Names).cause) ∷ (codes "RULES_END", rules_end.cause) ∷ (codes "SAVING", (ever_tail_told ever.Saving).cause) ∷ []
     ≡ ever_causes
 ever_numbers = refl
 

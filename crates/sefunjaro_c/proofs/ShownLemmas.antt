@@ -1,15 +1,14 @@
--- What is seen of zones of any kind, and instants at the offset in force.
+-- What is seen of zones, and instants at the offset in force.
 use Rattle.std.{proofs.Common.{◌≡◌, ℕ, Bool, false, List, ℤ, refl, sym, ap, subst, arith}, specs.Prelude.{Option, Some, None}, proofs.lemmas.Int.{ints}}
 use Rattle.civil_base.specs.{DateTimes.{instant, local_of, offset_of}, Instants.{instant_at, local_at}, declared.offset_date_time.OffsetDateTime.{OffsetDateTime}, Ranges.{is_in_years}}
 use Rattle.tz_lookup.specs.InForce.{in_force, shown_of}
-use Rattle.sefunjaro.specs.{Answered.{IsShown}, Answers.{IsAnswer}, Any.{Seen}, declared.answer.Answer.{Answer}, declared.zone.AnyZone.{AnyZone}, declared.zone.AnyZone.TheVariants.{Source, File}}
-use Rattle.sefunjaro_c.{specs.{Held.{OfZone}, declared.opened.Opened.{Opened}, Answers.{is_shown, IsShownAs, Where}, Lists.{OfPlace}}, proofs.AskedLemmas.{of_zone}}
+use Rattle.sefunjaro.specs.{Answered.{IsShown}, Answers.{IsAnswer}, Zones.{given_in, total_in}, declared.answer.Answer.{Answer}, declared.zone.OpenZone.{OpenZone}}
+use Rattle.sefunjaro_c.{specs.{Held.{OfZone, Seen}, declared.opened.Opened.{Opened}, Answers.{is_shown, IsShownAs, Where}, Lists.{OfPlace}}, proofs.AskedLemmas.{of_zone}}
 
 -- what follows from what is seen, whatever zone it is
-pub seen_map : (zone : AnyZone) (P Q : (ℤ → ℤ) → (ℤ → List ℕ → Bool → Type 0) → Type 0)
+pub seen_map : (zone : OpenZone) (P Q : (ℤ → ℤ) → (ℤ → List ℕ → Bool → Type 0) → Type 0)
     → ((total : ℤ → ℤ) (gives : ℤ → List ℕ → Bool → Type 0) → P total gives → Q total gives) → Seen zone P → Seen zone Q
-seen_map (Source zone) P Q f h = f _ _ h
-seen_map (File zone) P Q f h = record { footer = h.footer; says = h.says; holds = f _ _ h.holds }
+seen_map zone P Q f h = f (total_in zone) (given_in zone) h
 
 local_from : (x o t p : ℤ) → instant_at x o ≡ t → o ≡ p → x ≡ local_at t p
 local_from x o t p e f = omega (arith, ints, e, f)
@@ -42,7 +41,7 @@ unfolding is_shown
 where_unanswered total t kept P h k = subst (λ b. Where b 10 kept P) (sym h) (refl, k)
 
 -- what a call tells of the zone that is held, where a list is told by its places
-pub told_places : (o p : Opened) (read zone : AnyZone) (find : (ℤ → ℤ) → Option ℕ) (status place far : ℕ) (kept : Type 0) (due found : (ℤ → ℤ) → Type 0)
+pub told_places : (o p : Opened) (read zone : OpenZone) (find : (ℤ → ℤ) → Option ℕ) (status place far : ℕ) (kept : Type 0) (due found : (ℤ → ℤ) → Type 0)
     → o ≡ p → (Seen zone (λ total _. OfPlace (find total) status place far kept (due total))
     → OfZone p status (kept × (far ≡ place)) (λ held. Seen held (λ total _. OfPlace (find total) status place far kept (due total))))
     → ((total : ℤ → ℤ) → found total → OfPlace (find total) status place far kept (due total)) → read ≡ zone → Seen read (λ total _. found total)

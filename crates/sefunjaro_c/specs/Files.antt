@@ -1,6 +1,6 @@
 -- Zones that are opened from the bytes of a compiled file, or from a POSIX string.
 use Rattle.std.specs.{Prelude.{◌≡◌, ◌<◌, ◌⊎◌, ℕ, List, true, false}, Str.{is_utf8}}
-use Rattle.sefunjaro.specs.{Files.{IsFileFault, IsPosixOf}, Posix.{IsPosixFault}, declared.file.FileFault.{FileFault}, declared.file.FileZone.{FileZone}, declared.file.PosixFault.{PosixFault}}
+use Rattle.sefunjaro.specs.{Files.{IsFileFault, IsPosixOf}, Posix.{IsPosixFault}, declared.file.FileFault.{FileFault}, declared.file.PosixFault.{PosixFault}, declared.zone.OpenZone.{OpenZone}}
 use Rattle.sefunjaro.specs.declared.file.FileFault.TheVariants as file
 use Rattle.sefunjaro.specs.declared.file.PosixFault.TheVariants as posix
 use Rattle.sefunjaro_c.specs.{Statuses.{not_read, not_text, out_of_memory}, Faults.{plain}, declared.fault.Fault.{Fault}}
@@ -34,6 +34,6 @@ pub record IsPosixRefused (text : List ℕ) (fault : Fault) : Type 0 where
   pub refused : 0 < fault.status
 
 -- the zone is that of a string which is UTF-8
-pub record IsTextOf (text : List ℕ) (zone : FileZone) : Type 0 where
+pub record IsTextOf (text : List ℕ) (zone : OpenZone) : Type 0 where
   pub valid : is_utf8 text ≡ true
   pub string : IsPosixOf text zone

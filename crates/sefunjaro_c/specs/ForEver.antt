@@ -21,6 +21,7 @@ ever_tail_told tail.Shape = none_for 1
 ever_tail_told tail.OffsetRange = none_for 2
 ever_tail_told tail.Name = none_for 3
 ever_tail_told tail.NoRule = none_for 4
+ever_tail_told tail.Saving = none_for 9
 ever_tail_told tail.NoMemory = plain out_of_memory
 
 -- whether a text is a string that POSIX has a place for, with its names and its times
@@ -37,7 +38,7 @@ pub record IsEverTailIn (ever : ZoneSet) (old new : List ℕ) (whole : ℕ) (is_
   pub length : whole ≡ length text
   pub posix : IsPosix text is_posix
 
--- why there is none; want of memory comes only where it is none of the first three causes
+-- why there is none; want of memory comes only where no cause but 4 is due
 pub record IsNoEverTail (ever : ZoneSet) (fault : Fault) : Type 0 where
   pub why : EverTailFault
   pub holds : IsFaultForEver (zone_set_of ever) why

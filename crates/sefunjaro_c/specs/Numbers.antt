@@ -49,7 +49,7 @@ tzif_causes = (codes "TIMES", 1) ∷ (codes "TYPES", 2) ∷ (codes "NAMES", 3) �
 abbrev pub ever_causes : List (List ℕ × ℕ)
 ever_causes =
     (codes "SHAPE", 1) ∷ (codes "OFFSET_RANGE", 2) ∷ (codes "NAME", 3) ∷ (codes "NO_RULE", 4) ∷ (codes "TIMES", 5) ∷ (codes "TYPES", 6) ∷ (codes "NAMES", 7)
-    ∷ (codes "RULES_END", 8) ∷ []
+    ∷ (codes "RULES_END", 8) ∷ (codes "SAVING", 9) ∷ []
 
 -- enum sefunjaro_fold, after FOLD_
 abbrev pub folds : List (List ℕ × ℕ)

@@ -3,7 +3,7 @@ use Rattle.std.specs.Prelude.{◌≡◌, ℕ, List, None, IfSome}
 use Rattle.zone_table.specs.{Tables.{IsTableOf}, declared.table.Table.{Table}}
 use Rattle.zone_source.specs.{Releases.{release_of}, Zones.{values_of}}
 use Rattle.tz_lookup.specs.{Compiles.{compiled_in}, Sets.{schedule_of, IsAccepted}}
-use Rattle.sefunjaro.specs.{Sources.{table_in, release_in}, Zones.{ever_in, set_in, GoesOnAs, IsAsCompiled, IsOpened}, declared.source.OpenSource.{OpenSource}, declared.zone.OpenZone.{OpenZone}}
+use Rattle.sefunjaro.specs.{Sources.{table_in, release_in}, Zones.{ever_in, origin_in, set_in, GoesOnAs, IsAsCompiled, IsOpened}, declared.source.OpenSource.{OpenSource}, declared.zone.OpenZone.{OpenZone}, declared.zone.Origin.TheVariants.{Source}}
 use Rattle.sefunjaro_c.specs.{declared.view.View.{View}, Faults.{source_due}}
 
 -- the source is that of a text with no fault, with the release that the text names
@@ -18,6 +18,7 @@ pub record IsZoneOf (table : Table) (name : List ℕ) (zone : OpenZone) : Type 0
   pub accepted : IsAccepted (schedule_of (set_in zone))
   pub goes_on : GoesOnAs table name (ever_in zone)
   pub as_compiled : IsAsCompiled zone
+  pub origin : origin_in zone ≡ Source
 
 -- a view lends what it lent before, if anything
 abbrev pub StaysLent : View → View → Type 0

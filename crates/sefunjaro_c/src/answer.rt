@@ -1,15 +1,15 @@
 //! All that a zone says of an instant, in one call.
 ghost use Rattle.std.specs.Prelude.{◌≡◌};
 ghost use Rattle.civil_base.specs.DateTimes.{instant};
-ghost use Rattle.sefunjaro.specs.{Answers.{IsAnswer, TellsSaving, TellsUntil}, Any.{Seen}};
-ghost use Rattle.sefunjaro_c.specs.{Answers.{is_shown, Where, Within}, Times.{is_instant, nanos_at}, Opened.{StaysLent}, Held.{OfZone, OnZone}, Statuses.{done, IfRefused}};
+ghost use Rattle.sefunjaro.specs.Answers.{IsAnswer, TellsSaving, TellsUntil};
+ghost use Rattle.sefunjaro_c.specs.{Answers.{is_shown, Where, Within}, Times.{is_instant, nanos_at}, Opened.{StaysLent}, Held.{OfZone, OnZone, Seen}, Statuses.{done, IfRefused}};
 
 use crate::fault::{DONE, NOT_OPEN, OUT_OF_RANGE};
 use crate::opened::Opened;
 use crate::view::View;
 use crate::zones::instant_of;
 use civil_base::OffsetDateTime;
-use sefunjaro::{Answer, AnyZone};
+use sefunjaro::{Answer, OpenZone};
 
 /// All that a zone says of an instant, and how long it holds. The abbreviation goes into the room, as far as it fits.
 #[unsafe(no_mangle)]
@@ -61,7 +61,7 @@ fn answer_at(
     }
 }
 
-fn answer_in(zone: &AnyZone, at: &OffsetDateTime, answer: &mut Answer, name: &mut [u8]) -> u32
+fn answer_in(zone: &OpenZone, at: &OffsetDateTime, answer: &mut Answer, name: &mut [u8]) -> u32
     ensures answer { Seen zone.now (λ total gives. Where (is_shown total (instant at.now)) result (name.new ≡ name.old)
         (IsAnswer total gives (instant at.now) answer.new name.old name.new)) }
     ensures saving { result ≡ done → TellsSaving zone.now answer.new }

@@ -1,15 +1,16 @@
 //! The saving and the changes of a zone, the ring of a daily alarm, and the last year up to whose end a zone says what is in force.
 ghost use Rattle.std.specs.Prelude.{◌≡◌};
 ghost use Rattle.sefunjaro_c.specs.{Answers.{Where}, Changes.{AreChanges, IsFound, IsRing}, Times.{is_instant}, Opened.{StaysLent}, Held.{OfKept, OfZone, OnZone}, Statuses.{IfRefused}};
-ghost use Rattle.sefunjaro.specs.{Changes.{next_after, saving_at}, Zones.{last_year, recurrence_in, spans_in}};
+ghost use Rattle.sefunjaro.specs.{Changes.{next_after, saving_at}, Zones.{last_year, origin_in, recurrence_in, spans_in}};
 
 use crate::fault::{DONE, NONE_THERE, NOT_KEPT, NOT_OPEN, OUT_OF_RANGE};
 use crate::opened::Opened;
 use crate::view::View;
 use crate::zones::instant_of;
-use sefunjaro::{AnyZone, Change, Clock, Reading};
+use sefunjaro::{Change, Clock, OpenZone, Origin, Reading};
 
-/// The saving that is in force at an instant, in seconds. A change lies on a whole second, so the nanosecond only has to be one.
+/// The saving that is in force at an instant, in seconds, in a zone of a source: a file or a string keeps none. A change lies on a whole
+/// second, so the nanosecond only has to be one.
 #[unsafe(no_mangle)]
 pub extern "C" fn sefunjaro_saving_at_by(
     zone: &mut View,
@@ -40,9 +41,16 @@ fn saving_at(opened: &Opened, second: i64, nanosecond: u32, saving: &mut i64) ->
     let Opened::Zone(zone) = opened else {
         return NOT_OPEN;
     };
-    let AnyZone::Source(zone) = &**zone else {
-        return NOT_KEPT;
-    };
+    match zone.origin() {
+        Origin::Source => saving_of(zone, second, nanosecond, saving),
+        Origin::File => NOT_KEPT,
+    }
+}
+
+fn saving_of(zone: &OpenZone, second: i64, nanosecond: u32, saving: &mut i64) -> u32
+    ensures answer { Where (is_instant second nanosecond) result (saving.new ≡ saving.old) (saving.new ≡ saving_at (spans_in zone.now) second) }
+    ensures kept { IfRefused result (saving.new ≡ saving.old) }
+{
     match instant_of(second, nanosecond) {
         Some(_) => {
             *saving = zone.saving_at(second);
@@ -57,7 +65,7 @@ fn saving_at(opened: &Opened, second: i64, nanosecond: u32, saving: &mut i64) ->
 pub extern "C" fn sefunjaro_next_change_by(zone: &mut View, second: i64, change: &mut Change) -> u32
     ensures lent { StaysLent zone.old zone.new }
     ensures answer { OnZone zone.old.part.opened result (change.new ≡ change.old)
-        (λ held. OfKept held result (change.new ≡ change.old) (λ zone. IsFound (next_after (spans_in zone) second) result change.old change.new)) }
+        (λ zone. IsFound (next_after (spans_in zone) second) result change.old change.new) }
     ensures kept { IfRefused result (change.new ≡ change.old) }
 {
     let Some(reading) = zone.take() else {
@@ -70,14 +78,11 @@ pub extern "C" fn sefunjaro_next_change_by(zone: &mut View, second: i64, change:
 
 fn next_change(opened: &Opened, second: i64, change: &mut Change) -> u32
     ensures answer { OfZone opened.now result (change.new ≡ change.old)
-        (λ held. OfKept held result (change.new ≡ change.old) (λ zone. IsFound (next_after (spans_in zone) second) result change.old change.new)) }
+        (λ zone. IsFound (next_after (spans_in zone) second) result change.old change.new) }
     ensures kept { IfRefused result (change.new ≡ change.old) }
 {
     let Opened::Zone(zone) = opened else {
         return NOT_OPEN;
-    };
-    let AnyZone::Source(zone) = &**zone else {
-        return NOT_KEPT;
     };
     match zone.next_change(second) {
         Some(found) => {
@@ -99,7 +104,7 @@ pub extern "C" fn sefunjaro_changes_by(
 ) -> u32
     ensures lent { StaysLent zone.old zone.new }
     ensures answer { OnZone zone.old.part.opened result (changes.new ≡ changes.old)
-        (λ held. OfKept held result (changes.new ≡ changes.old) (λ zone. AreChanges zone from to result changes.old changes.new count.new)) }
+        (λ zone. AreChanges zone from to result changes.old changes.new count.new) }
     ensures kept { IfRefused result ((changes.new ≡ changes.old) × (count.new ≡ count.old)) }
 {
     let Some(reading) = zone.take() else {
@@ -118,14 +123,11 @@ fn all_changes(
     count: &mut usize,
 ) -> u32
     ensures answer { OfZone opened.now result (changes.new ≡ changes.old)
-        (λ held. OfKept held result (changes.new ≡ changes.old) (λ zone. AreChanges zone from to result changes.old changes.new count.new)) }
+        (λ zone. AreChanges zone from to result changes.old changes.new count.new) }
     ensures kept { IfRefused result ((changes.new ≡ changes.old) × (count.new ≡ count.old)) }
 {
     let Opened::Zone(zone) = opened else {
         return NOT_OPEN;
-    };
-    let AnyZone::Source(zone) = &**zone else {
-        return NOT_KEPT;
     };
     *count = zone.changes(from, to, changes);
     DONE
@@ -167,12 +169,12 @@ fn ring_of(opened: &Opened, clock: &Clock, ring: &mut Reading) -> u32
     }
 }
 
-/// The last year up to whose end a zone of a source says what is in force.
+/// The last year up to whose end a zone says what is in force.
 #[unsafe(no_mangle)]
 pub extern "C" fn sefunjaro_years_by(zone: &mut View, year: &mut i32) -> u32
     ensures lent { StaysLent zone.old zone.new }
     ensures answer { OnZone zone.old.part.opened result (year.new ≡ year.old)
-        (λ held. OfKept held result (year.new ≡ year.old) (λ zone. (result ≡ 0) × (year.new ≡ last_year (recurrence_in zone)))) }
+        (λ zone. (result ≡ 0) × (year.new ≡ last_year (origin_in zone) (recurrence_in zone))) }
     ensures kept { IfRefused result (year.new ≡ year.old) }
 {
     let Some(reading) = zone.take() else {
@@ -185,14 +187,11 @@ pub extern "C" fn sefunjaro_years_by(zone: &mut View, year: &mut i32) -> u32
 
 fn last_year(opened: &Opened, year: &mut i32) -> u32
     ensures answer { OfZone opened.now result (year.new ≡ year.old)
-        (λ held. OfKept held result (year.new ≡ year.old) (λ zone. (result ≡ 0) × (year.new ≡ last_year (recurrence_in zone)))) }
+        (λ zone. (result ≡ 0) × (year.new ≡ last_year (origin_in zone) (recurrence_in zone))) }
     ensures kept { IfRefused result (year.new ≡ year.old) }
 {
     let Opened::Zone(zone) = opened else {
         return NOT_OPEN;
-    };
-    let AnyZone::Source(zone) = &**zone else {
-        return NOT_KEPT;
     };
     *year = zone.last_year();
     DONE

@@ -1,12 +1,12 @@
 //! Zones that are opened from the bytes of a compiled file, or from a POSIX string.
 ghost use Rattle.std.specs.Prelude.{◌≡◌, IfErr, IfOk, IfSome, MatchOption, is_some, nat_eq};
 ghost use Rattle.sefunjaro_c.specs.{Faults.{plain}, Files.{file_told, posix_told, IsFileRefused, IsPosixRefused, IsTextOf}, Held.{IsZone}, Statuses.{done}};
-ghost use Rattle.sefunjaro.specs.{Any.{IsOfFile}, Files.{IsFileOf}};
+ghost use Rattle.sefunjaro.specs.Files.{IsFileOf};
 
 use crate::fault::{DONE, Fault, NO_MEMORY, NOT_READ, NOT_TEXT, plain_fault};
 use crate::handle::Handle;
 use crate::opened::Opened;
-use sefunjaro::{AnyZone, FileFault, FileZone, PosixFault};
+use sefunjaro::{FileFault, OpenZone, PosixFault};
 use std::alloc::Global;
 use zone_source::text_of;
 
@@ -21,7 +21,7 @@ pub extern "C" fn sefunjaro_file_open(
     ensures status { result ≡ fault.new.status }
     ensures opened { is_some zone.new.held.opened ≡ nat_eq result 0 }
     ensures done { IfSome zone.new.held.opened (λ _. fault.new ≡ plain done) }
-    ensures answer { MatchOption zone.new.held.opened (IsFileRefused bytes.now fault.new) (IsZone (IsOfFile (IsFileOf bytes.now))) }
+    ensures answer { MatchOption zone.new.held.opened (IsFileRefused bytes.now fault.new) (IsZone (IsFileOf bytes.now)) }
 {
     drop(zone.take(alloc));
     match open_file(alloc, bytes) {
@@ -39,11 +39,11 @@ pub extern "C" fn sefunjaro_file_open(
 
 /// The zone of a compiled file, on the heap.
 fn open_file(alloc: Global, bytes: &[u8]) -> Result<Box<Opened>, Fault>
-    ensures ok { IfOk result (λ opened. IsZone (IsOfFile (IsFileOf bytes.now)) opened.value) }
+    ensures ok { IfOk result (λ opened. IsZone (IsFileOf bytes.now) opened.value) }
     ensures err { IfErr result (IsFileRefused bytes.now) }
 {
-    match FileZone::read(alloc, bytes) {
-        Ok(zone) => match Opened::zone(alloc, AnyZone::File(zone)) {
+    match OpenZone::of_file(alloc, bytes) {
+        Ok(zone) => match Opened::zone(alloc, zone) {
             Ok(opened) => Ok(opened),
             Err(_) => Err(file_fault(FileFault::NoMemory)),
         },
@@ -84,7 +84,7 @@ pub extern "C" fn sefunjaro_posix_open(
     ensures status { result ≡ fault.new.status }
     ensures opened { is_some zone.new.held.opened ≡ nat_eq result 0 }
     ensures done { IfSome zone.new.held.opened (λ _. fault.new ≡ plain done) }
-    ensures answer { MatchOption zone.new.held.opened (IsPosixRefused text.now fault.new) (IsZone (IsOfFile (IsTextOf text.now))) }
+    ensures answer { MatchOption zone.new.held.opened (IsPosixRefused text.now fault.new) (IsZone (IsTextOf text.now)) }
 {
     drop(zone.take(alloc));
     match open_posix(alloc, text) {
@@ -102,14 +102,14 @@ pub extern "C" fn sefunjaro_posix_open(
 
 /// The zone of a POSIX string, on the heap.
 fn open_posix(alloc: Global, text: &[u8]) -> Result<Box<Opened>, Fault>
-    ensures ok { IfOk result (λ opened. IsZone (IsOfFile (IsTextOf text.now)) opened.value) }
+    ensures ok { IfOk result (λ opened. IsZone (IsTextOf text.now) opened.value) }
     ensures err { IfErr result (IsPosixRefused text.now) }
 {
     let Some(text) = text_of(text) else {
         return Err(plain_fault(NOT_TEXT));
     };
-    match FileZone::posix(alloc, text) {
-        Ok(zone) => match Opened::zone(alloc, AnyZone::File(zone)) {
+    match OpenZone::of_posix(alloc, text) {
+        Ok(zone) => match Opened::zone(alloc, zone) {
             Ok(opened) => Ok(opened),
             Err(_) => Err(posix_fault(PosixFault::NoMemory)),
         },

@@ -8,7 +8,7 @@ use crate::opened::Opened;
 use crate::view::View;
 use crate::whole::none_for;
 use sefunjaro::{
-    AnyZone, EverFileFault, EverTailFault, OpenZone, ZoneSet, fill, is_posix_string, tail_for_ever,
+    EverFileFault, EverTailFault, OpenZone, Origin, ZoneSet, fill, is_posix_string, tail_for_ever,
     tzif_for_ever,
 };
 use std::alloc::Global;
@@ -55,9 +55,9 @@ fn ever_tail_in(
     let Opened::Zone(zone) = opened else {
         return plain_fault(NOT_OPEN);
     };
-    match &**zone {
-        AnyZone::Source(zone) => ever_tail_of_zone(alloc, zone, text, whole, is_posix),
-        AnyZone::File(_) => plain_fault(NOT_KEPT),
+    match zone.origin() {
+        Origin::Source => ever_tail_of_zone(alloc, zone, text, whole, is_posix),
+        Origin::File => plain_fault(NOT_KEPT),
     }
 }
 
@@ -106,6 +106,7 @@ fn ever_tail_fault(fault: EverTailFault) -> Fault
         EverTailFault::OffsetRange => none_for(2),
         EverTailFault::Name => none_for(3),
         EverTailFault::NoRule => none_for(4),
+        EverTailFault::Saving => none_for(9),
         EverTailFault::NoMemory => plain_fault(NO_MEMORY),
     }
 }
@@ -143,9 +144,9 @@ fn ever_file_in(alloc: Global, opened: &Opened, file: &mut [u8], whole: &mut usi
     let Opened::Zone(zone) = opened else {
         return plain_fault(NOT_OPEN);
     };
-    match &**zone {
-        AnyZone::Source(zone) => ever_file_of_zone(alloc, zone, file, whole),
-        AnyZone::File(_) => plain_fault(NOT_KEPT),
+    match zone.origin() {
+        Origin::Source => ever_file_of_zone(alloc, zone, file, whole),
+        Origin::File => plain_fault(NOT_KEPT),
     }
 }
 

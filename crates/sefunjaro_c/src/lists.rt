@@ -1,7 +1,7 @@
 //! What a zone is asked of many seconds at once.
 ghost use Rattle.std.specs.Prelude.{◌≡◌, ◌<◌, length, pos, slice_index_or};
-ghost use Rattle.sefunjaro.specs.{Any.{Seen}, Offsets.{offsets_of}, Rooms.{filled}, Shown.{clocks_of, textless_place, texts_of, unshown_place}};
-ghost use Rattle.sefunjaro_c.specs.{Lists.{far_place, OfPlace}, Opened.{StaysLent}, Held.{OfZone, OnZone}, Statuses.{IfRefused}};
+ghost use Rattle.sefunjaro.specs.{Offsets.{offsets_of}, Rooms.{filled}, Shown.{clocks_of, textless_place, texts_of, unshown_place}};
+ghost use Rattle.sefunjaro_c.specs.{Lists.{far_place, OfPlace}, Opened.{StaysLent}, Held.{OfZone, OnZone, Seen}, Statuses.{IfRefused}};
 
 use crate::fault::{DONE, NOT_OPEN, OUT_OF_RANGE};
 use crate::opened::Opened;

@@ -1,12 +1,11 @@
 //! What a zone is asked of many local times at once.
 ghost use Rattle.std.specs.Prelude.{◌≡◌};
-ghost use Rattle.sefunjaro.specs.Any.{Seen};
-ghost use Rattle.sefunjaro_c.specs.{Found.{fold_of, gap_of, AreInstantsTold, OfRules}, Opened.{StaysLent}, Held.{OfZone, OnZone}, Statuses.{IfRefused}};
+ghost use Rattle.sefunjaro_c.specs.{Found.{fold_of, gap_of, AreInstantsTold, OfRules}, Opened.{StaysLent}, Held.{OfZone, OnZone, Seen}, Statuses.{IfRefused}};
 
 use crate::fault::{DONE, NOT_OPEN, OUT_OF_RANGE};
 use crate::opened::Opened;
 use crate::view::View;
-use sefunjaro::{AnyZone, Clock, FoldRule, Found, GapRule};
+use sefunjaro::{Clock, FoldRule, Found, GapRule, OpenZone};
 
 /// One instant of each of some local times, by the rules of these numbers, in their order, as far as they fit. Where some parts are no
 /// local time the place of the first such ones is told, from 0.
@@ -60,7 +59,7 @@ fn instants_of(
 
 /// One instant of each of some local times by two rules.
 fn found_by(
-    zone: &AnyZone,
+    zone: &OpenZone,
     clocks: &[Clock],
     fold: FoldRule,
     gap: GapRule,

@@ -1,6 +1,6 @@
 //! What a handle holds.
 
-use sefunjaro::{AnyZone, OpenSource};
+use sefunjaro::{OpenSource, OpenZone};
 use std::alloc::{AllocError, Global};
 use std::sync::Arc;
 
@@ -10,7 +10,7 @@ pub enum Opened {
     /// The zones of a source.
     Source(OpenSource),
     /// A zone.
-    Zone(Arc<AnyZone>),
+    Zone(Arc<OpenZone>),
 }
 
 impl Opened {
@@ -33,7 +33,7 @@ impl Opened {
     /// # Errors
     ///
     /// Want of memory alone.
-    pub fn zone(alloc: Global, zone: AnyZone) -> Result<Box<Opened>, AllocError>
+    pub fn zone(alloc: Global, zone: OpenZone) -> Result<Box<Opened>, AllocError>
         ensures { IfOk result (λ opened. IsZone (λ held. held ≡ zone) opened.value) }
     {
         match Arc::new(alloc, zone) {
@@ -47,7 +47,7 @@ impl Opened {
     /// # Errors
     ///
     /// Want of memory alone.
-    pub fn shared(alloc: Global, zone: &Arc<AnyZone>) -> Result<Box<Opened>, AllocError>
+    pub fn shared(alloc: Global, zone: &Arc<OpenZone>) -> Result<Box<Opened>, AllocError>
         ensures { IfOk result (λ opened. IsZone (λ held. held ≡ arc_value zone.now) opened.value) }
     {
         let other = Arc::try_clone(zone)?;

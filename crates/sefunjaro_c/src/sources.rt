@@ -2,7 +2,7 @@
 ghost use Rattle.std.specs.{Prelude.{◌≡◌, ◌<◌, IfErr, IfOk, IfSome, MatchOption, None, is_some, length, nat_eq}, List.{slice_get}};
 ghost use Rattle.sefunjaro_c.specs.{Faults.{plain, source_due, zone_due, IsRefused}, Names.{IsNameAt}, Opened.{IsSourceOf, IsZoneOf, StaysLent}, Held.{OfSource, OnSource, IsSource, IsZone}, Statuses.{done, not_open, IfRefused}};
 ghost use Rattle.tz_lookup.specs.Databases.{names_of};
-ghost use Rattle.sefunjaro.specs.{Any.{IsOfSource}, Sources.{release_in, table_in}};
+ghost use Rattle.sefunjaro.specs.{Sources.{release_in, table_in}};
 
 use crate::fault::{
     DONE, Fault, NO_MEMORY, NONE_THERE, NOT_OPEN, NOT_TEXT, opening_fault, plain_fault, zone_fault,
@@ -10,7 +10,7 @@ use crate::fault::{
 use crate::handle::Handle;
 use crate::opened::Opened;
 use crate::view::View;
-use sefunjaro::{AnyZone, OpenSource, fill};
+use sefunjaro::{OpenSource, fill};
 use std::alloc::Global;
 use zone_source::text_of;
 
@@ -77,7 +77,7 @@ pub extern "C" fn sefunjaro_zone_open_by(
     ensures opened { is_some zone.new.held.opened ≡ nat_eq result 0 }
     ensures done { IfSome zone.new.held.opened (λ _. fault.new ≡ plain done) }
     ensures answer { OnSource source.old.part.opened result ((zone.new.held.opened ≡ None) × (fault.new ≡ plain not_open))
-        (λ from. MatchOption zone.new.held.opened (IsRefused (zone_due (table_in from) name.now) fault.new) (IsZone (IsOfSource (IsZoneOf (table_in from) name.now)))) }
+        (λ from. MatchOption zone.new.held.opened (IsRefused (zone_due (table_in from) name.now) fault.new) (IsZone (IsZoneOf (table_in from) name.now))) }
 {
     drop(zone.take(alloc));
     let Some(reading) = source.take() else {
@@ -101,7 +101,7 @@ pub extern "C" fn sefunjaro_zone_open_by(
 
 /// The zone of a name, on the heap.
 fn open_zone(alloc: Global, from: &Opened, name: &[u8]) -> Result<Box<Opened>, Fault>
-    ensures ok { IfOk result (λ opened. IsSource (λ source. IsZone (IsOfSource (IsZoneOf (table_in source) name.now)) opened.value) from.now) }
+    ensures ok { IfOk result (λ opened. IsSource (λ source. IsZone (IsZoneOf (table_in source) name.now) opened.value) from.now) }
     ensures err { IfErr result (λ fault. OfSource from.now fault.status (fault ≡ plain not_open) (λ source. IsRefused (zone_due (table_in source) name.now) fault)) }
     ensures refused { IfErr result (λ fault. 0 < fault.status) }
 {
@@ -113,14 +113,14 @@ fn open_zone(alloc: Global, from: &Opened, name: &[u8]) -> Result<Box<Opened>, F
 
 /// The zone of a name in a source, on the heap.
 fn zone_of(alloc: Global, source: &OpenSource, name: &[u8]) -> Result<Box<Opened>, Fault>
-    ensures ok { IfOk result (λ opened. IsZone (IsOfSource (IsZoneOf (table_in source.now) name.now)) opened.value) }
+    ensures ok { IfOk result (λ opened. IsZone (IsZoneOf (table_in source.now) name.now) opened.value) }
     ensures err { IfErr result (IsRefused (zone_due (table_in source.now) name.now)) }
 {
     let Some(name) = text_of(name) else {
         return Err(plain_fault(NOT_TEXT));
     };
     match source.zone(alloc, name) {
-        Ok(zone) => match Opened::zone(alloc, AnyZone::Source(zone)) {
+        Ok(zone) => match Opened::zone(alloc, zone) {
             Ok(opened) => Ok(opened),
             Err(_) => Err(plain_fault(NO_MEMORY)),
         },

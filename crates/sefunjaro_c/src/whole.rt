@@ -5,7 +5,7 @@ ghost use Rattle.sefunjaro_c.specs.{Faults.{plain}, Whole.{tzif_told, none_for, 
 use crate::fault::{DONE, Fault, NO_MEMORY, NONE_THERE, NOT_KEPT, NOT_OPEN, plain_fault};
 use crate::opened::Opened;
 use crate::view::View;
-use sefunjaro::{AnyZone, OpenZone, fill, has_posix_names};
+use sefunjaro::{OpenZone, Origin, fill, has_posix_names};
 use std::alloc::Global;
 use zone_tail::TailFault;
 use zone_tzif::FileFault;
@@ -51,9 +51,9 @@ fn tail_in(
     let Opened::Zone(zone) = opened else {
         return plain_fault(NOT_OPEN);
     };
-    match &**zone {
-        AnyZone::Source(zone) => tail_of(alloc, zone, text, whole, is_posix),
-        AnyZone::File(_) => plain_fault(NOT_KEPT),
+    match zone.origin() {
+        Origin::Source => tail_of(alloc, zone, text, whole, is_posix),
+        Origin::File => plain_fault(NOT_KEPT),
     }
 }
 
@@ -122,9 +122,9 @@ fn file_in(alloc: Global, opened: &Opened, file: &mut [u8], whole: &mut usize) -
     let Opened::Zone(zone) = opened else {
         return plain_fault(NOT_OPEN);
     };
-    match &**zone {
-        AnyZone::Source(zone) => file_of(alloc, zone, file, whole),
-        AnyZone::File(_) => plain_fault(NOT_KEPT),
+    match zone.origin() {
+        Origin::Source => file_of(alloc, zone, file, whole),
+        Origin::File => plain_fault(NOT_KEPT),
     }
 }
 

@@ -1,15 +1,15 @@
 //! What a zone is asked: instants, local times and readings.
 ghost use Rattle.std.specs.Prelude.{◌≡◌, ◌<◌, IfNone, IfSome, MatchOption, is_some, true, false, unsigned_abs, IfErr, IfOk, length, nat_eq};
 ghost use Rattle.civil_base.specs.{DateTimes.{instant, local_of, offset_of}, Instants.{instant_at, local_at}, Ranges.{is_in_years, IsOffset}, Layout.{day_part, time_part, zoned_text}};
-ghost use Rattle.sefunjaro_c.specs.{Read.{local_in, IsInstantOf, IsLocalRead, IsNoZonedText, IsZonedRead}, Times.{is_instant, is_near, nanos_at}, Answers.{is_shown, IsClockIn, IsTextIn, OfClock, Within, Where}, Opened.{StaysLent}, Statuses.{IfRefused, out_of_memory}, Held.{OfZone, OnZone, IsZone}};
-ghost use Rattle.sefunjaro.specs.{Answered.{AreReadings, IsInForce}, Any.{Seen}, Clocks.{clock_at}, Rooms.{filled}};
+ghost use Rattle.sefunjaro_c.specs.{Read.{local_in, IsInstantOf, IsLocalRead, IsNoZonedText, IsZonedRead}, Times.{is_instant, is_near, nanos_at}, Answers.{is_shown, IsClockIn, IsTextIn, OfClock, Within, Where}, Opened.{StaysLent}, Statuses.{IfRefused, out_of_memory}, Held.{OfZone, OnZone, IsZone, Seen}};
+ghost use Rattle.sefunjaro.specs.{Answered.{AreReadings, IsInForce}, Clocks.{clock_at}, Rooms.{filled}};
 
 use crate::fault::{DONE, NO_MEMORY, NOT_OPEN, NOT_READ, OUT_OF_RANGE};
 use crate::handle::Handle;
 use crate::opened::Opened;
 use crate::view::View;
 use civil_base::{OffsetDateTime, PlainDateTime, UtcOffset, read_local, read_zoned, write_zoned};
-use sefunjaro::{AnyZone, Clock, Gap, InForce, Reading, fill};
+use sefunjaro::{Clock, Gap, InForce, OpenZone, Reading, fill};
 use std::alloc::Global;
 use zone_source::text_of;
 
@@ -328,7 +328,7 @@ fn clock_at(
     }
 }
 
-fn clock_in(zone: &AnyZone, at: &OffsetDateTime, clock: &mut Clock, offset: &mut i32) -> u32
+fn clock_in(zone: &OpenZone, at: &OffsetDateTime, clock: &mut Clock, offset: &mut i32) -> u32
     ensures answer { Seen zone.now (λ total _. Where (is_shown total (instant at.now)) result (clock.new ≡ clock.old) (IsClockIn total (instant at.now) clock.new offset.new)) }
     ensures kept { IfRefused result ((clock.new ≡ clock.old) × (offset.new ≡ offset.old)) }
 {
@@ -380,7 +380,7 @@ fn text_at(opened: &Opened, second: i64, nanosecond: u32, text: &mut [u8], whole
     }
 }
 
-fn text_in(zone: &AnyZone, at: &OffsetDateTime, text: &mut [u8], whole: &mut usize) -> u32
+fn text_in(zone: &OpenZone, at: &OffsetDateTime, text: &mut [u8], whole: &mut usize) -> u32
     ensures answer { Seen zone.now (λ total _. Where (is_shown total (instant at.now)) result (text.new ≡ text.old) (IsTextIn total (instant at.now) text.old text.new whole.new)) }
     ensures kept { IfRefused result ((text.new ≡ text.old) × (whole.new ≡ whole.old)) }
 {
@@ -457,7 +457,7 @@ fn all_readings(
     };
     match clock.local() {
         Some(local) => {
-            *count = zone.readings(&local, readings, gap);
+            *count = zone.readings_or_gap(&local, readings, gap);
             DONE
         }
         None => OUT_OF_RANGE,

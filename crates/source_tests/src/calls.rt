@@ -23,7 +23,7 @@ use zone_list::list_lines;
 use zone_spans::TableTransitions;
 use zone_table::{DaySpec, Month, Table, Weekday, Year};
 use zone_tail::laws::both_offsets;
-use zone_tzif::{EverTailFault, from_set, tail_for_ever, tzif_for_ever};
+use zone_tzif::{EverTailFault, consistent_tzif_of, from_set, tail_for_ever, tzif_for_ever};
 use zone_tzif_core::{ZoneFile, read_file};
 use zone_uses::{Moved, next_change};
 
@@ -350,61 +350,70 @@ fn zones_are_opened_for_ever_or_refused(rt: HostRuntime) {
     holds(&rt, "an end", ends(rt.alloc(), &table));
 }
 
-/// The rules of Ireland, whose saving lies below 0.
-const IRELAND: &[u8] = b"\
+/// The rules of Ireland, whose saving lies below 0; rules on dates, one of them at the end of February; local mean time up to 1700 alone; winter
+/// time of two abbreviations, by the day on which it begins, and in the year 2102 the later one; a zone whose saving is for good; and a
+/// name that POSIX has no place for.
+const CARRIED: &[u8] = b"\
 Rule E 1981 max - Mar lastSun 1:00u 0 -
 Rule E 1996 max - Oct lastSun 1:00u -1:00 -
-Zone A 1:00 E IST/GMT
+Rule D 1990 max - Feb 28 24:00 1:00 S
+Rule D 1990 max - Sep 21 1:00 0 -
+Rule N 2000 max - Mar lastSun 1:00 1:00 D
+Rule N 2000 max - Oct Sun<=29 2:00 0 S
+Rule N 2000 max - Oct 29 2:00 0 T
+Zone Ireland 1:00 E IST/GMT
+Zone Dates 2:00 D EE%sT
+Zone Early 0:10 - LMT 1700
+ 1:00 - CET
+Zone Two 0:00 N X%sT
+Zone Saved 1:00 - LMT 1990
+ 1:00 1:00 XST
+Zone Short 2:00 - CD
 ";
 
-fn ireland(rt: &impl Abort, alloc: Global) -> ZoneSet {
-    ZoneSet::open(alloc, &table_of(rt, alloc, IRELAND), "A").expect(rt, "not opened")
+fn zone_for_ever(rt: &impl Abort, alloc: Global, name: &str) -> ZoneSet {
+    ZoneSet::open(alloc, &table_of(rt, alloc, CARRIED), name).expect(rt, "not opened")
 }
 
-/// The footer that `zic` writes of them.
-fn expect_footer(rt: &impl Abort, alloc: Global, ever: &ZoneSet) {
-    let tail = tail_for_ever(alloc, ever).expect(rt, "no footer");
-    reads(rt, tail.text.as_str(), "IST-1GMT0,M10.5.0,M3.5.0/1");
+/// Asserts the footer of a zone, which is what `zic` writes but for the dates of January and February.
+fn expect_footer(rt: &impl Abort, alloc: Global, name: &str, due: &str) {
+    let tail = tail_for_ever(alloc, &zone_for_ever(rt, alloc, name)).expect(rt, name);
+    reads(rt, tail.text.as_str(), due);
+}
+
+/// Asserts why a zone has none.
+fn expect_no_footer(rt: &impl Abort, alloc: Global, name: &str, due: EverTailFault) {
+    match tail_for_ever(alloc, &zone_for_ever(rt, alloc, name)) {
+        Ok(_) => holds(rt, name, false),
+        Err(fault) => holds(rt, name, fault == due),
+    }
 }
 
 #[test]
 fn a_footer_carries_a_zone_on_for_ever(rt: HostRuntime) {
-    expect_footer(&rt, rt.alloc(), &ireland(&rt, rt.alloc()));
+    let alloc = rt.alloc();
+    expect_footer(&rt, alloc, "Ireland", "IST-1GMT0,M10.5.0,M3.5.0/1");
+    expect_footer(&rt, alloc, "Dates", "EET-2EEST,J59/24,J264/1");
+    expect_footer(&rt, alloc, "Early", "CET-1");
+    expect_no_footer(&rt, alloc, "Two", EverTailFault::NoRule);
+    expect_no_footer(&rt, alloc, "Saved", EverTailFault::Saving);
+    expect_no_footer(&rt, alloc, "Short", EverTailFault::Name);
 }
 
-/// Winter time has two abbreviations, by the day on which it begins, and in the year 2102 the later one; and a zone whose saving is for
-/// good.
-const UNSAID: &[u8] = b"\
-Rule N 2000 max - Mar lastSun 1:00 1:00 D
-Rule N 2000 max - Oct Sun<=29 2:00 0 S
-Rule N 2000 max - Oct 29 2:00 0 T
-Zone A 0:00 N X%sT
-Zone B 1:00 - LMT 1990
- 1:00 1:00 XST
-";
-
-fn unsaid(rt: &impl Abort, alloc: Global, name: &str) -> ZoneSet {
-    ZoneSet::open(alloc, &table_of(rt, alloc, UNSAID), name).expect(rt, "not opened")
-}
-
-/// No footer says both abbreviations.
-fn has_no_rule(alloc: Global, ever: &ZoneSet) -> bool {
-    matches!(tail_for_ever(alloc, ever), Err(EverTailFault::NoRule))
-}
-
-/// The file has daylight saving time from its last change on, and no footer that would say otherwise.
-fn is_saved_for_good(file: &ZoneFile) -> bool {
-    file.change_count() == 1 && file.kind_at(0).is_dst && file.footer().is_empty()
+/// Asserts that a file has daylight saving time from its last change on, and no footer that would say otherwise.
+fn expect_saved(rt: &impl Abort, alloc: Global, bytes: &[u8]) {
+    let file = read_file(alloc, bytes).expect(rt, "not read");
+    let is_saved = file.change_count() == 1 && file.kind_at(0).is_dst && file.footer().is_empty();
+    holds(rt, "a footer, or no saving", is_saved);
 }
 
 #[test]
 fn what_no_footer_says_has_none(rt: HostRuntime) {
-    holds(
-        &rt,
-        "a footer of one abbreviation",
-        has_no_rule(rt.alloc(), &unsaid(&rt, rt.alloc(), "A")),
-    );
-    let bytes = tzif_for_ever(rt.alloc(), &unsaid(&rt, rt.alloc(), "B")).expect(&rt, "no file");
-    let file = read_file(rt.alloc(), &bytes).expect(&rt, "not read");
-    holds(&rt, "a footer, or no saving", is_saved_for_good(&file));
+    let table = table_of(&rt, rt.alloc(), CARRIED);
+    let zone = ZoneSet::open_to_2099(rt.alloc(), &table, "Saved").expect(&rt, "not opened");
+    let bytes = consistent_tzif_of(rt.alloc(), zone.compact()).expect(&rt, "no file");
+    expect_saved(&rt, rt.alloc(), bytes.as_slice());
+    let zone = zone_for_ever(&rt, rt.alloc(), "Saved");
+    let bytes = tzif_for_ever(rt.alloc(), &zone).expect(&rt, "no file");
+    expect_saved(&rt, rt.alloc(), bytes.as_slice());
 }

@@ -6,9 +6,9 @@ use crate::rows::due_of;
 use civil_base::{OffsetDateTime, PlainDateTime, read_local};
 use std::alloc::Global;
 use std::process::Abort;
-use tz_ever::Recurrence;
-use tz_lookup::{TimeZone, Tz};
-use tz_tzif::{FileSpans, Footer, TzifOwner, TzifTz, spans_of};
+use tz_ever::{Recurrence, ZoneSet, ZoneTz};
+use tz_lookup::{InstantsOf, TimeZone};
+use tz_tzif::{Footer, spans_of};
 use zone_tzif_core::{ZoneFile, read_file};
 
 /// A footer and, after `|`, seconds from 1970-01-01 00:00:00 UTC, each with the offset in seconds, 1 for daylight saving time and 0 for
@@ -80,8 +80,8 @@ fn has_in_force<T: TimeZone>(rt: &impl Abort, tz: &T, row: &str) -> bool {
 }
 
 /// Whether a local time in a fold past the changes of the zone has two instants.
-fn has_fold(tz: &TzifTz<'_>, fold: &PlainDateTime) -> bool {
-    let mut instants = tz.instants_local(fold);
+fn has_fold(zone: &ZoneTz<'_>, fold: &PlainDateTime) -> bool {
+    let mut instants = InstantsOf::new(zone, fold);
     instants.next().is_some_and(is_first) & instants.next().is_some_and(is_second)
 }
 
@@ -94,53 +94,24 @@ fn is_second(instant: OffsetDateTime) -> bool {
 }
 
 /// Asserts what the zone has in force, and the instants of that local time.
-fn expect_new_york(rt: &impl Abort, tz: &TzifTz<'_>) {
+fn expect_new_york(rt: &impl Abort, zone: &ZoneTz<'_>) {
     for row in HELD.split(';') {
-        holds(rt, row, has_in_force(rt, tz, row));
+        holds(rt, row, has_in_force(rt, zone, row));
     }
     let fold = read_local("2024-11-03 01:30:00.000000000").expect(rt, "no local time");
-    holds(rt, "fold", has_fold(tz, &fold));
-}
-
-/// Asserts the same of a zone of the file.
-fn expect_zone(rt: &impl Abort, alloc: Global, zone: &ZoneFile) {
-    match TzifTz::new(alloc, "America/New_York", zone) {
-        Ok(tz) => expect_new_york(rt, &tz),
-        Err(_) => panic!(rt; "refused"),
-    }
-}
-
-/// Asserts the same of what owns the file.
-fn expect_owner(rt: &impl Abort, alloc: Global, zone: ZoneFile) {
-    match TzifOwner::new(alloc, zone) {
-        Ok(owner) => expect_new_york(rt, &owner.lend("America/New_York")),
-        Err(_) => panic!(rt; "refused"),
-    }
-}
-
-/// Asserts that its spans put the same in force, and that those of 400 years come again.
-fn expect_spans(rt: &impl Abort, spans: &FileSpans) {
-    holds(rt, "again", spans.recurrence == Recurrence::Later);
-    match Tz::new(&spans.set) {
-        Ok(tz) => {
-            for row in HELD.split(';') {
-                holds(rt, row, has_in_force(rt, &tz, row));
-            }
-        }
-        Err(_) => panic!(rt; "no zone"),
-    }
-}
-
-#[test]
-fn a_slim_file_has_spans(rt: HostRuntime) {
-    match spans_of(rt.alloc(), "America/New_York", &new_york(&rt, rt.alloc())) {
-        Ok(spans) => expect_spans(&rt, &spans),
-        Err(_) => panic!(&rt; "refused"),
-    }
+    holds(rt, "fold", has_fold(zone, &fold));
 }
 
 #[test]
 fn a_slim_file_answers_past_its_last_change(rt: HostRuntime) {
-    expect_zone(&rt, rt.alloc(), &new_york(&rt, rt.alloc()));
-    expect_owner(&rt, rt.alloc(), new_york(&rt, rt.alloc()));
+    match spans_of(rt.alloc(), "America/New_York", &new_york(&rt, rt.alloc())) {
+        Ok(spans) => {
+            holds(&rt, "again", spans.recurrence == Recurrence::Later);
+            match ZoneSet::build(rt.alloc(), &spans.set, spans.recurrence) {
+                Ok(zone) => expect_new_york(&rt, &ZoneTz::new(&zone)),
+                Err(_) => panic!(&rt; "no zone"),
+            }
+        }
+        Err(_) => panic!(&rt; "refused"),
+    }
 }

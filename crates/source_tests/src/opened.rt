@@ -6,8 +6,8 @@ use crate::fixtures::{NEW_YORK, at};
 use crate::plain::{self, refused_line};
 use crate::runs::bytes_of;
 use sefunjaro::{
-    AnySourceFault, AnyZone, Change, Date, FileZone, Month, OffsetDateTime, OpenFault, OpenSource,
-    OpenZone, Ring, Time, ZoneFault,
+    AnySourceFault, Change, Date, Month, OffsetDateTime, OpenFault, OpenSource, OpenZone, Ring,
+    Time, ZoneFault,
 };
 use std::alloc::Global;
 use std::process::Abort;
@@ -289,18 +289,33 @@ const FILE: &[u8] =
     b"TZif2\0\0\0\0\0\0\0\0\0\0\0\0\0\0\0\0\0\0\0\0\0\0\0\0\0\0\0\0\0\0\0\0\0\0\x01\0\0\0\x01\0\0\0\0\0\0\0TZif2\0\0\0\0\0\0\0\0\0\0\0\0\0\0\0\0\0\0\0\0\0\0\0\0\0\0\0\0\0\0\x02\0\0\0\x03\0\0\0\x0d\xff\xff\xff\xff\x91`PO\0\0\0\01]\xd9\x10\x02\x01\0\0\x021\0\0\0\0\x1c \x01\x04\0\0\x0e\x10\0\x09LMT\0CEST\0CET\0\nCET-1CEST,M3.5.0,M10.5.0/3\n";
 
 /// Asserts what is in force in 2400, far behind the last change of the file, on each side of the change in March.
-fn expect_far_off(rt: &impl Abort, zone: &FileZone) {
+fn expect_far_off(rt: &impl Abort, zone: &OpenZone) {
     let before = zone.offset_at(&at(rt, 13_576_813_199));
     let after = zone.offset_at(&at(rt, 13_576_813_200));
     holds(rt, "2400", (before == 3600) & (after == 7200));
 }
 
-fn file_of(rt: &impl Abort, alloc: Global) -> FileZone {
-    FileZone::read(alloc, FILE).expect(rt, "not read")
+fn is_change(found: Option<Change>, second: i64, offset: i32) -> bool {
+    match found {
+        Some(change) => (change.second == second) & (change.offset == offset) & change.differs,
+        None => false,
+    }
 }
 
-fn string_of(rt: &impl Abort, alloc: Global) -> FileZone {
-    FileZone::posix(alloc, "CET-1CEST,M3.5.0,M10.5.0/3").expect(rt, "refused")
+/// Asserts its changes of 2024.
+fn expect_changes_of_2024(rt: &impl Abort, zone: &OpenZone) {
+    let spring = zone.next_change(1_711_846_799);
+    holds(rt, "spring", is_change(spring, 1_711_846_800, 7200));
+    let autumn = zone.next_change(1_711_846_800);
+    holds(rt, "autumn", is_change(autumn, 1_729_990_800, 3600));
+}
+
+fn file_of(rt: &impl Abort, alloc: Global) -> OpenZone {
+    OpenZone::of_file(alloc, FILE).expect(rt, "not read")
+}
+
+fn string_of(rt: &impl Abort, alloc: Global) -> OpenZone {
+    OpenZone::of_posix(alloc, "CET-1CEST,M3.5.0,M10.5.0/3").expect(rt, "refused")
 }
 
 #[test]
@@ -309,13 +324,15 @@ fn a_file_is_a_zone(rt: HostRuntime) {
     let offset = zone.offset_at(&at(&rt, -1_855_958_962));
     holds(&rt, "local mean time", offset == 561);
     expect_far_off(&rt, &zone);
-    expect_rings(&rt, rt.alloc(), &AnyZone::File(zone));
+    expect_changes_of_2024(&rt, &zone);
+    expect_rings(&rt, rt.alloc(), &zone);
 }
 
 #[test]
 fn a_string_is_a_zone(rt: HostRuntime) {
     let zone = string_of(&rt, rt.alloc());
     expect_far_off(&rt, &zone);
+    expect_changes_of_2024(&rt, &zone);
 }
 
 /// Paris by the rules of Europe from 1996 on.
@@ -359,7 +376,7 @@ fn half_past_two(rt: &impl Abort) -> Time {
 }
 
 /// Asserts when an alarm at half past two rings around that change.
-fn expect_rings(rt: &impl Abort, alloc: Global, zone: &AnyZone) {
+fn expect_rings(rt: &impl Abort, alloc: Global, zone: &OpenZone) {
     let first = Date::from_calendar_date(2024, Month::March, 30).expect(rt, "a date");
     let rings = zone
         .alarms(alloc, half_past_two(rt), first, 3)
@@ -368,7 +385,7 @@ fn expect_rings(rt: &impl Abort, alloc: Global, zone: &AnyZone) {
 }
 
 /// Asserts that none rings past all years.
-fn expect_no_rings(rt: &impl Abort, alloc: Global, zone: &AnyZone) {
+fn expect_no_rings(rt: &impl Abort, alloc: Global, zone: &OpenZone) {
     let last = Date::from_calendar_date(9999, Month::December, 31).expect(rt, "a date");
     let found = zone.alarms(alloc, half_past_two(rt), last, 2);
     let wanted = "the last day of the alarm is past 9999-12-31";
@@ -376,17 +393,16 @@ fn expect_no_rings(rt: &impl Abort, alloc: Global, zone: &AnyZone) {
 }
 
 /// Asserts the rings in a zone of a source.
-fn expect_alarms(rt: &impl Abort, alloc: Global, zone: OpenZone) {
-    let zone = AnyZone::Source(zone);
-    expect_rings(rt, alloc, &zone);
-    expect_no_rings(rt, alloc, &zone);
+fn expect_alarms(rt: &impl Abort, alloc: Global, zone: &OpenZone) {
+    expect_rings(rt, alloc, zone);
+    expect_no_rings(rt, alloc, zone);
 }
 
 #[test]
 fn a_zone_lists_its_changes_and_has_alarms(rt: HostRuntime) {
     let zone = zone_of(&rt, rt.alloc(), PARIS, "Europe/Paris");
     expect_changes(&rt, rt.alloc(), &zone);
-    expect_alarms(&rt, rt.alloc(), zone);
+    expect_alarms(&rt, rt.alloc(), &zone);
 }
 
 #[test]

@@ -18,7 +18,8 @@ R E 1996 ma - Mar lastSu 1u 1 S;R E 1996 ma - O lastSu 1u 0 -;Z Test/Berlin 1 E 
 const PLAIN: &str = "Zone Test/One 1:00 - ONE;Link Test/One Test/Two;Link Test/Two Other/Three;";
 
 /// Other files, each a name and a text: an odd rule; lines of Berlin, with a link; a zone whose offset no string has; a link to nothing; a
-/// zone that is named as the release's file; no line of a source; the front of a compiled file.
+/// zone that is named as the release's file; no line of a source; one that was cut short; the front of a compiled file; a name that POSIX has
+/// no place for, and daylight saving time for good.
 const FILES: &str = "\
 odd~R odd 1990 o - o 1 23s 1 S;
 europe~# version 2026b;R E 1981 ma - Mar lastSu 1u 1 S;R E 1996 ma - O lastSu 1u 0 -;Z Europe/Berlin 1 E CE%sT;L Europe/Berlin Arctic/Longyearbyen;
@@ -26,13 +27,17 @@ far~Zone Far 25:00 - ABC;
 links~Zone A 0:00 - A;Link B C;
 name~Zone +VERSION 0 - A;
 nonsense~Nonsense;
+cut~Zone A 0:00 - A;Zone B 1:00 - B
 compiled~TZif2
+made~Zone Made/Name 2:00 - CD;Zone Made/Saved 1:00 1:00 XST;
 ";
 
 /// Rows that end with status 0.
 const RUNS: &str = "\
 at|Test/Berlin|now|@0.5~~2024-10-27 02:30:00 +02:00 CEST;1970-01-01 01:00:00.5 +01:00 CET;~
 local|Test/Link|2150-07-01|12:00|--json~~{\"zone\":\"Test/Link\",\"instant\":5695956000,\"local\":\"2150-07-01 12:00:00\",\"offset\":\"+02:00\",\"abbreviation\":\"CEST\",\"saving\":3600,\"kind\":\"one\"};~
+local|Test/Berlin|2024-03-31|02:30|--json~~{\"zone\":\"Test/Berlin\",\"skipped_at\":1711846800,\"local\":\"2024-03-31 02:30:00\",\"before\":\"+01:00\",\"after\":\"+02:00\",\"abbreviation\":\"CEST\",\"saving\":3600,\"kind\":\"gap\"};~
+local|Test/Berlin|2024-03-31|02:30~~none: skipped at 2024-03-31 03:00:00 +02:00 CEST, from +01:00 to +02:00;~
 convert|Test/Berlin|-04:30|2024-10-27 02:30|--rfc3339~~2024-10-26T20:00:00-04:30;2024-10-26T21:00:00-04:30;~
 list|Test/Berlin|@1704067200|now~~@1711846800: 2024-03-31 02:00:00 +01:00 CET to 2024-03-31 03:00:00 +02:00 CEST, saving 3600;~
 list|Test/Berlin|2150-01-01T00:00:00Z|2151-01-01T00:00:00Z~~@5687802000: 2150-03-29 02:00:00 +01:00 CET to 2150-03-29 03:00:00 +02:00 CEST, saving 3600;@5705946000: 2150-10-25 03:00:00 +02:00 CEST to 2150-10-25 02:00:00 +01:00 CET, saving 0;~
@@ -48,12 +53,14 @@ stream|--source|plain~at Other/Three @0~1970-01-01 01:00:00 +01:00 ONE;~
 plain|odd~~Rule odd 1990 only - Oct 1 23:00s 1:00 S;~
 at|Arctic/Longyearbyen|2024-10-27T00:30:00Z|@1729992600.5|@5695963200|--source|europe~~2024-10-27 02:30:00 +02:00 CEST;2024-10-27 02:30:00.5 +01:00 CET;2150-07-01 14:00:00 +02:00 CEST;~
 log|Test/Berlin|--field|2~a 1729989000 b;no;~a 2024-10-27 02:30:00 +02:00 CEST b;no;~
+log|Test/Berlin~20241027023000 a;631151999 b;631152000 c;~20241027023000 a;631151999 b;1990-01-01 01:00:00 +01:00 CET c;~
 --version~~zone 2.0.0 of Sefunjaro;~
 ";
 
 /// Rows that end with status 2.
 const FAULTS: &str = "\
 at|Test/Paris|@0~~~zone: \"Test/Paris\": no zone has this name;
+at|a\tb|@0~~~zone: \"a\\tb\": no zone has this name;
 local|UTC|2024-10-27~~~zone: \"2024-10-27\": a time of day is missing, as in 2024-10-27 02:30;
 at|UTC|2024-10-27|02:30~~~zone: \"2024-10-27\": a time of day and an offset are missing, as in 2024-10-27T02:30:00+02:00;
 at|UTC|1729992600~~~zone: \"1729992600\": a number alone is no time: seconds since 1970 have an @ before them, as in @1729989000, and an instant of a date is written as 2024-10-27T00:30:00Z;
@@ -62,16 +69,27 @@ alarm|UTC|07:30|--from|2024-10-27|--until|2024-10-26~~~zone: \"2024-10-26\": the
 list|UTC|@1729989000|now~~~zone: \"now\": this isn't after FROM;
 list|Nowhere|now|2024-10-27T02:29:59+02:00~~~zone: \"2024-10-27T02:29:59+02:00\": this isn't after FROM;
 at|Test/Ends|@4102444800~~~zone: \"Test/Ends\": the zone's rules end before that year;
-string|Test/Ends~~~zone: \"Test/Ends\": the rules of this zone end, so it doesn't go on for ever;
+string|Test/Ends~~~zone: \"Test/Ends\": the rules of this zone end, or aren't found to come again, so it isn't told for ever;
+string|Made/Name|--source|made~~~zone: \"Made/Name\": no string says this zone for ever: an abbreviation isn't three or more letters, digits, + or -;
+file|Made/Name|--source|made~~~zone: \"Made/Name\": no string says this zone for ever: an abbreviation isn't three or more letters, digits, + or -;
+string|Made/Saved|--source|made~~~zone: \"Made/Saved\": no string says this zone for ever: it has daylight saving time for good;
+convert|UTC|Test/Ends|2150-01-01|00:00~~~zone: \"Test/Ends\": the zone's rules end before that year;
+convert|Test/Ends|UTC|2150-01-01|00:00~~~zone: \"Test/Ends\": the zone's rules end before that year;
+local|Test/Berlin|2024-03-31|02:30|--epoch~~~zone: \"Test/Berlin\": clocks skip this local time;
+convert|Test/Berlin|UTC|2024-03-31|02:30|--rfc3339~~~zone: \"Test/Berlin\": clocks skip this local time;
+stream|--epoch~local Test/Berlin 2024-03-31 02:30;at UTC @0;~? \"Test/Berlin\": clocks skip this local time;@0;~
 stream~at UTC;at UTC @0;~? \"at\": words are missing behind this command;1970-01-01 00:00:00 +00:00 UTC;~
 stream|--plain~at Test/Ends 4102444800000000000;at UTC 0;at Test/Berlin @0;at Test/Berlin 0~? \"Test/Ends\": the zone's rules end before that year;? \"UTC\": no zone has this name;? a request is at NAME N, or local NAME YYYY-MM-DD hh:mm:ss.fffffffff;1970-01-01 01:00:00.000000000 +01:00:00;~
 stream|--plain|--source|plain~at Other/Three 0;at Test/Two 0~? \"Other/Three\": no zone has this name;1970-01-01 01:00:00.000000000 +01:00:00;~
 log|Nowhere~@0;~~zone: \"Nowhere\": no zone has this name;
-tree~~~zone: \"Test/Ends\": the rules of this zone end, so it doesn't go on for ever;
+tree~~~zone: \"Test/Ends\": the rules of this zone end, or aren't found to come again, so it isn't told for ever;
 tree|--source|far~~~zone: \"Far\": no string says this zone for ever: it has an offset past 24:59:59;
 tree|--to-2099|--source|links~~~zone: \"links\": line 2 of this source can't be read: this link leads to no zone;
 tree|--to-2099|--source|name~~~zone: \"+VERSION\": an archive has no place for this name;
 plain|nonsense~~~zone: \"nonsense\": line 1 of this source can't be read: its first word is none of Rule, Zone and Link;
+at|A|@0|--source|cut~~~zone: \"cut\": line 2 of this source can't be read: the source ends in the middle of it;
+stream|--plain|--source|cut~at A 0;~~zone: \"cut\": line 2 of this source can't be read: the source ends in the middle of it;
+plain|cut~~~zone: \"cut\": line 2 of this source can't be read: the source ends in the middle of it;
 plain|compiled~~~zone: \"compiled\": this is a compiled file, and a source is wanted;
 ";
 

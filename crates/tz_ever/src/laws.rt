@@ -1,7 +1,7 @@
 //! What a zone shows for ever is what a [`ZoneTz`](crate::ZoneTz) over its spans shows, and a [`ZoneTable`](crate::ZoneTable) to the
 //! year 10501.
 ghost use Rattle.std.specs.Prelude.{◌≡◌, ℕ, IsTrue, List, Some, ℤ, pos, ◌+ℤ◌, ◌<ℤ◌};
-ghost use Rattle.civil_base.specs.Instants.{nanos_of, seconds_of};
+ghost use Rattle.civil_base.specs.{Instants.{instant_at, nanos_of, seconds_of}, Ranges.{IsOffset}};
 ghost use Rattle.zone_table.specs.declared.{table.Table.{Table}, zone.ZoneInfo.{ZoneInfo}};
 ghost use Rattle.zone_spans.specs.{Lines.{Rulesets}, Schedules.{is_in_offset_range, total_at}, Entries.{Entry}};
 ghost use Rattle.tz_ever.specs.{AnyYear.{span_for_ever, total_for_ever}, Opens.{IsFoundForEver, IsZoneToday}, Ever.{IsRepeating, ever_span, ever_total}, Recurrences.{RepeatsAs}, ZoneShown.{recurrence_of, zone_set_of}, ForEver.{IsForEver}, InForce.{span_at}};
@@ -115,6 +115,12 @@ pub fn shows_as_today()
     for_ever::before_2100();
     for_ever::as_before();
 }
+
+/// Where two totals are the same at each instant within 26 hours of a local time, it is read at the same instants and offsets.
+pub fn reads_alike()
+    ensures { (total other : ℤ → ℤ) (x : ℤ) → ((o : ℤ) → IsOffset o → total (instant_at x o) ≡ other (instant_at x o))
+        → all_in_force total x ≡ all_in_force other x }
+{}
 
 /// One total offset is in force throughout a second.
 pub fn holds_in_seconds()

@@ -7,9 +7,4 @@ mod FooterReadLemmas
 mod FooterSaidLemmas
 mod WorkedFooters
 mod WorkedForce
-mod GivenLemmas
-mod InstantLemmas
-mod KindLemmas
-mod OffsetLemmas
-mod ReadLemmas
 mod WorkedKinds

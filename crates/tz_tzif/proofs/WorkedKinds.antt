@@ -1,9 +1,8 @@
 -- What holds in a zone of two changes, by hand.
-use Rattle.std.proofs.{Common.{◌≡◌, refl, ℤ, pos, neg_ℤ, List, [], ◌∷◌, map, Some, None, true, false, codes, ap, arith}, lemmas.Int.{ints}}
+use Rattle.std.proofs.Common.{◌≡◌, refl, ℤ, pos, neg_ℤ, List, [], ◌∷◌, map, Some, None, true, false, codes}
 use Rattle.civil_base.specs.Instants.{seconds_of}
-use Rattle.tz_tzif.specs.{FooterForce.{fixed, held_at, yearly}, Faults.{are_small, IsNoFooter, IsTzifFault, SaysInFooter}, InForce.{kind_at, kind_in, told_total_at}, Lasting.{HoldsUntil}, Offsets.{offsets_of}}
+use Rattle.tz_tzif.specs.{FooterForce.{fixed, held_at}, Faults.{are_small, IsNoFooter, IsTzifFault, SaysInFooter}, InForce.{kind_at, kind_in, told_total_at}}
 use Rattle.tz_tzif.specs.declared.fault.TzifFault.TheVariants.{Times, Offset, Footer}
-use Rattle.tz_posix.specs.declared.date.Date.TheVariants.{J}
 use Rattle.zone_tzif_core.specs.Zones.{KindValue, ZoneValue}
 
 abbrev kind : ℤ → KindValue
@@ -21,18 +20,6 @@ worked_kinds : map (λ s. (kind_in zone None s).utoff) (pos 9 ∷ pos 10 ∷ pos
 unfolding kind_in
 worked_kinds = refl
 
--- what holds between them holds up to the second: no shorter, and no longer
-not_shorter : HoldsUntil (kind_in zone None) (pos 12) (pos 15) → ⊥
-unfolding kind_in
-not_shorter h = absurd (omega (arith, ints, h.ends refl))
-
-not_longer : HoldsUntil (kind_in zone None) (pos 12) (pos 21) → ⊥
-unfolding kind_in
-not_longer h = apart (ap (λ (k : KindValue). k.utoff) (h.same (pos 20) (omega (arith, ints)) (omega (arith, ints))))
-  where
-    apart : ◌≡◌ {A = ℤ} (pos 3) (pos 2) → ⊥
-    apart e = cc
-
 -- a footer speaks from the last change on
 worked_footer : map (λ s. (kind_in zone (Some (fixed (kind (pos 4)))) s).utoff) (pos 9 ∷ pos 10 ∷ pos 19 ∷ pos 20 ∷ pos 99 ∷ [])
     ≡ pos 1 ∷ pos 2 ∷ pos 2 ∷ pos 4 ∷ pos 4 ∷ []
@@ -43,18 +30,6 @@ worked_footer = refl
 worked_unchanged : map (λ s. (kind_in unchanged (Some (fixed (kind (pos 4)))) s).utoff) (pos 0 ∷ pos 9 ∷ []) ≡ pos 4 ∷ pos 4 ∷ []
 unfolding kind_in held_at
 worked_unchanged = refl
-
--- the greatest first, each once
-worked_offsets : offsets_of (record { first = kind (pos 2); rest = (pos 1, kind (pos 3)) ∷ (pos 2, kind (pos 2)) ∷ []; footer = [] })
-    (Some (fixed (kind (pos 1)))) ≡ pos 3 ∷ pos 2 ∷ pos 1 ∷ []
-unfolding offsets_of
-worked_offsets = refl
-
--- both offsets of a footer's rule count
-both_offsets : offsets_of (record { first = kind (pos 2); rest = []; footer = [] }) (Some (yearly (kind (pos 1)) (kind (pos 3)) (J 1, pos 0) (J 2, pos 0)))
-    ≡ pos 3 ∷ pos 2 ∷ pos 1 ∷ []
-unfolding offsets_of
-both_offsets = refl
 
 -- a zone of a first offset and of changes to others
 abbrev changed : ℤ → List (ℤ × ℤ) → ZoneValue

@@ -10,21 +10,10 @@ pub mod Places
 pub mod FooterShown
 pub mod Faults
 pub mod InForce
-pub mod InstantsLeft
-pub mod Instants
-pub mod Offsets
-pub mod Owners
-pub mod Zones
-pub mod Lasting
 pub mod Opened
 -- Laws: what a caller may use.
 pub mod FooterLaws
 -- Words of private clauses.
-pub mod OwnShown
 pub mod FooterReading
 pub mod Steady
-pub mod Cells
-pub mod OwnZones
-pub mod Kept
-pub mod Next
 pub mod Walks

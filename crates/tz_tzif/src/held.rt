@@ -1,6 +1,4 @@
 //! What holds at an instant.
-ghost use Rattle.std.specs.Prelude.{◌≡◌, ◌↔◌, IsTrue};
-ghost use Rattle.tz_tzif.specs.FooterShown.{held_shown};
 
 use civil_base::UtcOffset;
 use tz_lookup::Offset;
@@ -11,15 +9,6 @@ pub struct Held<'a> {
     pub(crate) name: &'a str,
     pub(crate) offset: UtcOffset,
     pub(crate) is_dst: bool,
-}
-
-/// Whether two have one offset, one abbreviation and one kind of time.
-pub(crate) fn is_same(one: &Held<'_>, other: &Held<'_>) -> bool
-    ensures { IsTrue result ↔ held_shown one.now ≡ held_shown other.now }
-{
-    one.offset.whole_seconds() == other.offset.whole_seconds()
-        && one.is_dst == other.is_dst
-        && one.name == other.name
 }
 
 impl<'a> Held<'a> {

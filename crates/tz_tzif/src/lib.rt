@@ -6,19 +6,12 @@
 #![tactic(auto)]
 
 mod accept;
-mod cells;
 mod fault;
 mod footer;
 mod held;
 mod in_force;
-mod instants;
-mod kept;
 mod laws;
 mod moments;
-mod offsets;
-mod own_footer;
-mod own_zone;
-mod owner;
 mod range;
 mod read;
 pub mod repeats;
@@ -26,16 +19,12 @@ mod rule;
 mod search;
 mod spans;
 mod values;
-mod zone;
 
 pub use accept::read_footer;
 pub use fault::TzifFault;
 pub use footer::Footer;
 pub use held::Held;
-pub use instants::{TzifCursor, TzifInstants};
-pub use laws::{file_totals, one_footer};
-pub use owner::TzifOwner;
+pub use laws::{file_totals, one_footer, opened_shows};
 pub use read::footer_text;
 pub use spans::{FileSpans, spans_of};
 pub use values::{FooterRule, FooterText, Saving};
-pub use zone::TzifTz;

@@ -1,5 +1,5 @@
 -- Answers by the zones that names found.
-use Rattle.std.{proofs.Common.{◌≡◌, ℕ, ℤ, List, [], Option, Some, None, IfSome, Ok, Err, Bool, true, false, cond, refl, sym, subst, ◌∙◌, int_cmp, int_lt, is_lt, Less, Equal, Greater}, specs.Prelude.{Result, Vec}, specs.declared.alloc.Global.{Global}}
+use Rattle.std.{proofs.lemmas.List.{length-map}, proofs.Common.{◌≡◌, ℕ, ℤ, List, [], length, map, Option, Some, None, IfSome, Ok, Err, Bool, true, false, cond, refl, sym, subst, ◌∙◌, int_cmp, int_lt, is_lt, Less, Equal, Greater}, specs.Prelude.{Result, Vec}, specs.declared.alloc.Global.{Global}}
 use Rattle.zone_command.specs.{Answers.{told, IsAnswer, IsReply, ◌>>=◌}, Due.{Due as Delivered, IsDue}, Named.{Found, named_in}, Replies.{list_answer, list_lines, on_zone}, declared.answerer.AnswerFault.{AnswerFault, TheVariants.{Line, NoMemory}}, declared.source.Refusal.{Refusal}}
 use Rattle.zone_words.specs.declared.answer_form.AnswerForm.{AnswerForm}
 use Rattle.zone_texts.specs.{Faults.{Due}, Views.{ZoneView}, declared.fault.ReplyFault.{ReplyFault}}
@@ -13,13 +13,17 @@ answered found name who reply {view = view} lines r is replies tells =
     subst P (sym is) (tells (reply view) replies)
 
 -- of two
-pub answered_both : (found : List ℕ → Found) (from to who : List ℕ) (reply : ZoneView → ZoneView → Due) {view other : ZoneView}
+pub answered_both : (found : List ℕ → Found) (from to : List ℕ) (who : ZoneView → List ℕ) (reply : ZoneView → ZoneView → Due) {view other : ZoneView}
     (lines : Result (Vec ℕ Global) ReplyFault) (r : Result (Vec ℕ Global) Refusal) → named_in found from ≡ Ok view → named_in found to ≡ Ok other
-    → IsReply (reply view other) lines → ((due : Due) → IsReply due lines → IsAnswer (told who due) r)
-    → IsAnswer (on_zone found from (λ v. on_zone found to (λ o. told who (reply v o)))) r
+    → IsReply (reply view other) lines → ((due : Due) → IsReply due lines → IsAnswer (told (who view) due) r)
+    → IsAnswer (on_zone found from (λ v. on_zone found to (λ o. told (who v) (reply v o)))) r
 answered_both found from to who reply {view = view} lines r is is_other replies tells =
-    let P : Found → Type 0 = λ z. IsAnswer (z >>= (λ v. on_zone found to (λ o. told who (reply v o)))) r in
-    subst P (sym is) (answered found to who (reply view) lines r is_other replies tells)
+    let P : Found → Type 0 = λ z. IsAnswer (z >>= (λ v. on_zone found to (λ o. told (who v) (reply v o)))) r in
+    subst P (sym is) (answered found to (who view) (reply view) lines r is_other replies tells)
+
+-- as many instants as readings
+pub as_many : {A B : Type 0} (f : A → B) (xs : List A) → length (map f xs) ≡ length xs
+as_many f xs = length-map xs f
 
 -- of a window that ends after it begins
 pub in_window : (found : List ℕ → Found) (form : AnswerForm) (name : List ℕ) (from to : ℤ) (word : List ℕ) (r : Result (Vec ℕ Global) Refusal)

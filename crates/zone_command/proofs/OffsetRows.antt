@@ -2,7 +2,7 @@
 use Rattle.std.{proofs.Common.{◌≡◌, refl, map, ℕ, ℤ, List, [], ◌∷◌, ◌++◌, Option, Some, None, pos, neg_ℤ}, specs.Prelude.{codes}}
 use Rattle.basics.specs.Numbers.{value_in}
 use Rattle.zone_command.specs.{Offsets.{two_in, size_in, offset_in}, Refusals.{fault_words, name_words, told_line}}
-use Rattle.zone_texts.specs.declared.fault.ReplyFault.TheVariants.{Untold}
+use Rattle.zone_texts.specs.declared.fault.ReplyFault.TheVariants.{Skipped, Untold}
 
 abbrev offsets : List (List ℕ × Option ℤ)
 offsets =
@@ -18,3 +18,10 @@ worked_offsets = refl
 
 worked_line : told_line (name_words (codes "x") (fault_words Untold)) ≡ (codes "zone: " ++ 34 ∷ 120 ∷ 34 ∷ []) ++ codes ": the zone's rules end before that year" ++ 10 ∷ []
 worked_line = refl
+
+-- a name with a quote and a line feed stays one line, between its quotes
+worked_name : name_words (34 ∷ 97 ∷ 10 ∷ []) (codes "w") ≡ (34 ∷ codes "\\\"a\\n") ++ 34 ∷ codes ": w"
+worked_name = refl
+
+worked_skip : fault_words Skipped ≡ codes "clocks skip this local time"
+worked_skip = refl

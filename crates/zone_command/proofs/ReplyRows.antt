@@ -1,8 +1,8 @@
 -- Answers over a source with one zone, which has no saving and lists four seconds.
-use Rattle.std.{proofs.Common.{◌≡◌, refl, true, false, ap, arith, map, lit≤, ℕ, pos, List, [], ◌∷◌, ◌++◌, ◌&&◌, cond, filter, int_le, int_lt, Some, None}, specs.Prelude.{Ok, Err, bytes_eq, codes}, specs.Fmt.{digits}}
+use Rattle.std.{proofs.Common.{◌≡◌, refl, true, false, ap, arith, map, lit≤, ℕ, pos, List, [], ◌∷◌, ◌++◌, ◌&&◌, ◌||◌, cond, filter, length, ◌==◌, int_le, int_lt, Some, None}, specs.Prelude.{Ok, Err, bytes_eq, codes}, specs.Fmt.{digits}}
 use Rattle.basics.specs.{DateLaws.{year_of-day}, Dates.{year_of}, Days.{is_leap, days_in_year, days_in_month, days_after_zero, days_before_zero, year_start, days_through, days_into_year, day, IsCountedYear}, SignedLaws.{signed}, Numbers.{value_in}}
 use Rattle.civil_base.specs.{Instants.{seconds_of}, Layout.{day_part}}
-use Rattle.zone_command.specs.{Answers.{lined, of_name, told}, Named.{Found, named_in}, Offsets.{two_in, size_in, offset_in}, Replies.{asks_form, list_lines, reply_of}}
+use Rattle.zone_command.specs.{Answers.{lined, of_name, told}, Named.{Found, named_in}, Offsets.{two_in, size_in, offset_in}, Replies.{asks_form, at_fault, list_lines, reply_of}}
 use Rattle.zone_words.specs.{Written.{epoch_text, fraction_text, offset_shown}, declared.answer_form.AnswerForm.TheVariants.{Epoch}, Tasks.{converted, list_changes, plain_form, tree}}
 use Rattle.zone_texts.specs.{Faults.{each_due}, Fixed.{fixed_view}, Lists.{change_due, list_due, sides_text}, Views.{ZoneView}, declared.fault.ReplyFault.TheVariants.{OutOfYears, Untold}}
 
@@ -35,6 +35,13 @@ counted_year = record { first = omega (arith, signed); last = omega (arith, sign
 year : year_of (pos 0) ≡ pos 1970
 unfolding is_leap days_in_year days_in_month days_after_zero days_before_zero year_start days_through days_into_year day
 year = year_of-day (pos 1970) 1 1 counted_year (record { first_month = lit≤ tt; last_month = lit≤ tt; first_day = lit≤ tt; last_day = lit≤ tt })
+
+-- the first zone's fault: it doesn't tell the local time, or skips it; else the other's
+blamed : map (λ (v : ZoneView). at_fault v (codes "a") (codes "b") (pos 0)) (view ∷ record view { last_year = pos 1969 } ∷ record view { readings = λ x. [] } ∷ [])
+    ≡ codes "b" ∷ codes "a" ∷ codes "a" ∷ []
+unfolding view day_part
+blamed = λ i. map (λ (v : ZoneView). cond (int_lt v.last_year (year i) || length (v.readings (pos 0)) == 0) (codes "a") (codes "b"))
+    (view ∷ record view { last_year = pos 1969 } ∷ record view { readings = λ x. [] } ∷ [])
 
 line : List ℕ → List ℕ
 line second = (64 ∷ second ++ codes ": +00:00 A to +00:00 A, saving 0") ++ 10 ∷ []

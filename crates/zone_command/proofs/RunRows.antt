@@ -27,6 +27,7 @@ failures =
     ) ∷
     (clock_fails, (codes "zone: the clock can't be read" ++ 10 ∷ [], 3)) ∷
     (environment_fails, (codes "zone: the value of SEFUNJARO_TZDATA can't be read" ++ 10 ∷ [], 3)) ∷
+    (file_fails (10 ∷ []), (codes "zone: " ++ quoted (codes "\\n") ++ codes ": this file can't be read" ++ 10 ∷ [], 3)) ∷
     (file_fails (codes "x"), (codes "zone: " ++ quoted (codes "x") ++ codes ": this file can't be read" ++ 10 ∷ [], 3)) ∷ (
       file_long (codes "x"),
       (codes "zone: " ++ quoted (codes "x") ++ codes ": this file has more than 16,777,216 bytes" ++ 10 ∷ [], 6),
@@ -37,7 +38,7 @@ worked_failures : map (λ row. (errors_of row.0, code_of (status_of row.0))) fai
 unfolding fault_line errors_of
 worked_failures = refl
 
-worked_files : file_of (Some (codes "b")) ∷ file_of None ∷ [] ≡ codes "b" ∷ codes "/usr/share/zoneinfo/tzdata.zi" ∷ []
+worked_files : map file_of (Some (codes "b") ∷ Some [] ∷ None ∷ []) ≡ codes "b" ∷ codes "/usr/share/zoneinfo/tzdata.zi" ∷ codes "/usr/share/zoneinfo/tzdata.zi" ∷ []
 worked_files = refl
 
 abbrev ends : List (StreamEnd × (List ℕ × ℕ))

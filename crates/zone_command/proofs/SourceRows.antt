@@ -1,10 +1,11 @@
 -- What is told of sources, in words: each cause, and which line it is told of.
-use Rattle.std.{proofs.Common.{◌≡◌, refl, inl, inr, map, ℕ, Bool, true, false, List, [], ◌∷◌}, specs.Prelude.{codes, Ok, Err}, specs.Fmt.{digits}, specs.Prelude.{String}, specs.declared.alloc.Global.{Global}}
+use Rattle.std.{proofs.Common.{◌≡◌, refl, ap, sym, ◌∙◌, inl, inr, map, ℕ, true, false, List, [], ◌∷◌, ◌++◌, Option, Some, None}, proofs.lemmas.Option.{same_Some}, specs.Prelude.{codes, Ok, Err}, specs.Fmt.{digits}, specs.Prelude.{String}, specs.declared.alloc.Global.{Global}}
+use Rattle.sefunjaro.specs.declared.source.OpenSource.{OpenSource}
 use Rattle.sefunjaro.specs.declared.any_source.AnySourceFault.TheVariants as source
 use Rattle.zone_plain.specs.Plain.{plain_of}
 use Rattle.zone_plain_lines.specs.{LineFaults.{at, bad_line, too_long}, declared.cause.PlainCause.{PlainCause}}
 use Rattle.zone_plain_lines.specs.declared.cause.PlainCause.TheVariants as plain
-use Rattle.zone_command.specs.{Causes.{cause_words, form_words, join_words, kind_words, line_words}, Sources.{fault_words, form_due, form_of, is_compiled, HasFault, IsUnread}, Views.{schedule_words}, Wholes.{changes_words, file_words, tail_words, why_words}}
+use Rattle.zone_command.specs.{Causes.{cause_words, form_words, join_words, kind_words, line_words}, Sources.{fault_words, first_refusal, form_due, form_of, is_compiled, is_cut, unless, HasFault, IsRead, IsReadPlainly, IsUnread, IsUnreadPlainly}, Views.{schedule_words}, Wholes.{changes_words, file_words, tail_words, why_words}}
 use Rattle.zone_source.specs.declared.error.{BuildKind.{BuildKind}}
 use Rattle.zone_source.specs.declared.error.BuildKind.TheVariants as join
 use Rattle.zone_source.specs.declared.error.SourceError.TheVariants as error
@@ -88,9 +89,10 @@ worked_schedules = refl
 
 abbrev tails : List (EverTailFault × List ℕ)
 tails =
+    (tail.Saving, codes "no string says this zone for ever: it has daylight saving time for good") ∷
     (tail.Shape, codes "no string says this zone for ever: a year has other changes than one to daylight saving time and one back") ∷
     (tail.OffsetRange, codes "no string says this zone for ever: it has an offset past 24:59:59") ∷
-    (tail.Name, codes "no string says this zone for ever: it has an abbreviation that no string has") ∷
+    (tail.Name, codes "no string says this zone for ever: an abbreviation isn't three or more letters, digits, + or -") ∷
     (tail.NoRule, codes "no string says this zone for ever: no days of its rules come again each year") ∷
     (tail.NoMemory, codes "out of memory") ∷ []
 
@@ -111,7 +113,7 @@ abbrev whys : List (Why × List ℕ)
 whys =
     (why.Schedule span.MissingUntil, codes "a line of this zone has no end, and another follows") ∷
     (why.OffsetRange, codes "this zone has an offset of 26 hours or more") ∷
-    (why.RulesEnd, codes "the rules of this zone end, so it doesn't go on for ever") ∷
+    (why.RulesEnd, codes "the rules of this zone end, or aren't found to come again, so it isn't told for ever") ∷
     (why.String tail.NoRule, codes "no string says this zone for ever: no days of its rules come again each year") ∷
     (why.Format, codes "a % is left in an abbreviation of this zone") ∷
     (why.File write.Times, codes "this zone has no file: its changes don't rise, or are too many") ∷
@@ -159,30 +161,55 @@ worked_forms : map form_due (Ok (codes "a") ∷ Err (bad_line (at 12 plain.Month
 unfolding digits line_words
 worked_forms = refl
 
--- a compiled file has none, and of any other text it is that of its lines
-form_of_compiled : (text : List ℕ) → is_compiled text ≡ true → form_of text ≡ Err (codes "this is a compiled file, and a source is wanted")
-unfolding form_of
-form_of_compiled text is = rw is refl
+-- a source ends with a line feed, if it has bytes
+worked_cut : map is_cut ([] ∷ (10 ∷ []) ∷ (97 ∷ 10 ∷ []) ∷ (97 ∷ 13 ∷ 10 ∷ []) ∷ (97 ∷ []) ∷ (10 ∷ 97 ∷ []) ∷ (97 ∷ 10 ∷ 13 ∷ []) ∷ [])
+    ≡ false ∷ false ∷ false ∷ false ∷ true ∷ true ∷ true ∷ []
+worked_cut = refl
 
-form_of_text : (text : List ℕ) → is_compiled text ≡ false → form_of text ≡ form_due (plain_of text)
-unfolding form_of
-form_of_text text is = rw is refl
+-- at first sight: a compiled file before all, and of a text that was cut short the line in which it was
+worked_looks : map first_refusal (codes "TZif2" ∷ (codes "# a" ++ 10 ∷ codes "R b") ∷ codes "R" ∷ (codes "R b" ++ 10 ∷ []) ∷ [] ∷ [])
+    ≡ Some (codes "this is a compiled file, and a source is wanted")
+    ∷ Some (codes "line 2 of this source can't be read: the source ends in the middle of it")
+    ∷ Some (codes "line 1 of this source can't be read: the source ends in the middle of it") ∷ None ∷ None ∷ []
+unfolding first_refusal line_words digits
+worked_looks = refl
 
--- a compiled file is told as one, and any other text by its fault
-compiled_told : (text why : List ℕ) → is_compiled text ≡ true → IsUnread text why → why ≡ codes "this is a compiled file, and a source is wanted"
-compiled_told text why is unread = elim unread [
-  | inl told ↦ told.1
-  | inr other ↦ absurd (apart (is_compiled text) is other.0)
-]
+-- a text that is refused at first sight has no plain form, is read as no source, and is told so
+refused_form : (text why : List ℕ) → first_refusal text ≡ Some why → form_of text ≡ Err why
+unfolding form_of
+refused_form text why is = ap (λ o. unless o (form_due (plain_of text))) is
+
+refused_source : (text why : List ℕ) (source : OpenSource) → first_refusal text ≡ Some why → (IsRead text source → ⊥) × (IsReadPlainly text source → ⊥)
+refused_source text why source is = (λ read. some_none (sym is ∙ read.0), λ read. some_none (sym is ∙ read.0))
   where
-    apart : (b : Bool) → b ≡ true → b ≡ false → ⊥
-    apart b is other = absurd cc
+    some_none : let some : Option (List ℕ) = Some why in some ≡ None → ⊥
+    some_none e = cc
 
-fault_told : (text why : List ℕ) → is_compiled text ≡ false → IsUnread text why → HasFault text why
+refused_told : (text why words : List ℕ) → first_refusal text ≡ Some why → (IsUnread text words → why ≡ words) × (IsUnreadPlainly text words → why ≡ words)
+refused_told text why words is = (
+  λ unread. elim unread [
+    | inl told ↦ same_Some why words (sym is ∙ told)
+    | inr other ↦ absurd (some_none (sym is ∙ other.0))
+  ],
+  λ unread. elim unread [
+    | inl told ↦ same_Some why words (sym is ∙ told)
+    | inr other ↦ absurd (some_none (sym is ∙ other.0))
+  ],
+)
+  where
+    some_none : let some : Option (List ℕ) = Some why in some ≡ None → ⊥
+    some_none e = cc
+
+-- and any other text is told by its fault, and has the plain form of its lines
+form_of_text : (text : List ℕ) → first_refusal text ≡ None → form_of text ≡ form_due (plain_of text)
+unfolding form_of
+form_of_text text is = ap (λ o. unless o (form_due (plain_of text))) is
+
+fault_told : (text why : List ℕ) → first_refusal text ≡ None → IsUnread text why → HasFault text why
 fault_told text why is unread = elim unread [
-  | inl told ↦ absurd (apart (is_compiled text) told.0 is)
+  | inl told ↦ absurd (none_some (sym is ∙ told))
   | inr other ↦ other.1
 ]
   where
-    apart : (b : Bool) → b ≡ true → b ≡ false → ⊥
-    apart b is other = absurd cc
+    none_some : let some : Option (List ℕ) = Some why in None ≡ some → ⊥
+    none_some e = cc

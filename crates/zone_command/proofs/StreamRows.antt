@@ -1,12 +1,12 @@
 -- Requests about Berlin in 2024, as Python's `zoneinfo` has its times, and requests that are faults.
-use Rattle.std.proofs.Common.{◌≡◌, Some, None, refl, ap, ◌∙◌, arith, Bool, true, false, not, lit≤, ◌++◌, ◌∷◌, [], List, ℕ, ℤ, map, pos, int_lt, cond, Ok, Err}
+use Rattle.std.proofs.Common.{◌≡◌, Some, None, refl, ap, ◌∙◌, arith, Bool, true, false, not, ◌||◌, lit≤, ◌++◌, ◌∷◌, [], List, ℕ, ℤ, map, pos, int_lt, cond, Ok, Err}
 use Rattle.std.specs.{Prelude.{bytes_eq, codes}, Fmt.{digits}, Str.{chars, is_utf8}}
 use lib.Utf8.{encode}
 use Rattle.basics.specs.{DateLaws.{year_of-day}, Dates.{year_of}, Days.{is_leap, days_in_year, days_in_month, days_after_zero, days_before_zero, year_start, days_through, days_into_year, day, IsCountedYear}, SignedLaws.{signed}, Numbers.{value_in}}
 use Rattle.civil_base.specs.{Clock.{time_at}, Instants.{local_at, seconds_of}, Layout.{day_part, time_part}, Ranges.{is_in_years}}
 use Rattle.zone_command.specs.{Answers.{Answer, told}, Named.{Found}, Offsets.{offset_in, size_in, two_in}, Requests.{request_in, request_of, words_of}, Streams.{answer_for, between, closing, is_fault, opening, response_of, stream_replies}, LogTexts.{log_text, text_of}}
 use Rattle.zone_words.specs.{Numbers.{moment, seconds_east, counted}, Pieces.{digit_at, two_at, four_at, date_at, minute_at, second_at, offset_at}, Readings.{digits_at, fraction_at, front_at, seconds_at, moment_in, local_in, in_years, zoned_at, zoned_in, size_at, count_at, count_in, counted_in, written_in, instant_in, asked_in}, Written.{epoch_text, fraction_text, offset_shown, people_text, rfc3339_text}, declared.answer_form.AnswerForm.{AnswerForm}, declared.answer_form.AnswerForm.TheVariants.{People, Rfc3339, Epoch, Json}, Arguments.{task_in}, FaultLines.{fault_line}, Sorted.{put_any, put_option, put_word}, Words.{words_in}}
-use Rattle.zone_texts.specs.{Berlin.{berlin_to, changes_in, in_force, instants_in, summer, total_in, winter}, Faults.{Due, behind, each_due, followed}, Instants.{instant_text, is_untold, shown_due}, Readings.{convert_due, local_due}, Skips.{from_to_text, skipping}, Views.{ZoneView}, declared.{fault.ReplyFault.TheVariants.{OutOfYears, Untold}, kind.Kind.{Kind}, kind.Kind.TheVariants.{Fold, One}}}
+use Rattle.zone_texts.specs.{Berlin.{berlin_to, changes_in, in_force, instants_in, summer, total_in, winter}, Faults.{Due, behind, each_due, followed}, Instants.{instant_text, is_untold, shown_due}, Readings.{convert_due, local_due}, Skips.{from_to_text, skipping}, Views.{ZoneView}, declared.{fault.ReplyFault.TheVariants.{OutOfYears, Skipped, Untold}, kind.Kind.{Kind}, kind.Kind.TheVariants.{Fold, One}}}
 
 abbrev berlin : ZoneView
 berlin = berlin_to (pos 2099)
@@ -132,29 +132,57 @@ unfolding found name winter summer in_force total_in instants_in berlin_to secon
     moment_in local_in in_years zoned_at zoned_in size_at count_at count_in counted_in written_in instant_in asked_in
     day_part time_part value_in two_in size_in offset_in put_any put_option put_word task_in words_in fault_line
 converted_once =
-    (λ i. told (codes "-01:00") (followed (behind [] (cond (ap (int_lt (pos 9999)) in_2024.0 i) (Err Untold) (followed (second name Epoch One i) (Ok [])))) (Ok [])))
+    (λ i. told (cond (ap (int_lt (pos 9999)) in_2024.0 i || false) (codes "-01:00") name)
+    (followed (behind [] (cond (ap (int_lt (pos 9999)) in_2024.0 i) (Err Untold) (followed (second name Epoch One i) (Ok [])))) (Ok [])))
 
 -- 2024-03-31 02:30 is skipped
-skipped : answer Epoch (codes "local Europe/Berlin 2024-03-31 02:30") ≡ Ok (codes "none: skipped at @1711846800, from +01:00 to +02:00")
-unfolding found name winter summer in_force total_in instants_in changes_in berlin_to seconds_of convert_due skipping from_to_text epoch_text
-    fraction_text offset_shown digits is_leap days_in_year days_in_month days_after_zero days_before_zero year_start days_through days_into_year day time_at
+skip_line : List ℕ
+skip_line = codes "none: skipped at " ++ people_text (pos 1711854000000000000) (pos 7200) (codes "CEST") ++ codes ", from +01:00 to +02:00"
+
+skipped : answer People (codes "local Europe/Berlin 2024-03-31 02:30") ≡ Ok (skip_line ++ [])
+unfolding found name skip_line winter summer in_force total_in instants_in changes_in berlin_to seconds_of convert_due skipping from_to_text offset_shown digits is_leap days_in_year days_in_month days_after_zero days_before_zero year_start days_through days_into_year day time_at
     moment seconds_east counted digit_at two_at four_at date_at minute_at second_at offset_at digits_at fraction_at front_at seconds_at
     moment_in local_in in_years zoned_at zoned_in size_at count_at count_in counted_in written_in instant_in asked_in
     day_part time_part value_in two_in size_in offset_in put_any put_option put_word task_in words_in fault_line
-skipped =
-    (λ i. told name (followed (behind [] (cond (ap (int_lt (pos 2099)) in_2024.1 i) (Err Untold) (Ok (codes "none: skipped at @1711846800, from +01:00 to +02:00")))) (Ok [])))
+skipped = λ i. told name (followed (behind [] (cond (ap (int_lt (pos 2099)) in_2024.1 i) (Err Untold) (Ok skip_line))) (Ok []))
 
-if_late : (b : Bool) (d : Due) → b ≡ true → cond b (Err Untold) d ≡ Err Untold
-if_late true d e = refl
-if_late false d e = cc
+-- a form of instants alone has no line for it
+no_instant : answer Epoch (codes "local Europe/Berlin 2024-03-31 02:30") ≡ Err (codes "\"Europe/Berlin\": clocks skip this local time")
+unfolding found name winter summer in_force total_in instants_in berlin_to seconds_of convert_due
+    is_leap days_in_year days_in_month days_after_zero days_before_zero year_start days_through days_into_year day time_at
+    moment seconds_east counted digit_at two_at four_at date_at minute_at second_at offset_at digits_at fraction_at front_at seconds_at
+    moment_in local_in in_years zoned_at zoned_in size_at count_at count_in counted_in written_in instant_in asked_in
+    day_part time_part value_in two_in size_in offset_in put_any put_option put_word task_in words_in fault_line
+no_instant = λ i. told name (followed (behind [] (cond (ap (int_lt (pos 2099)) in_2024.1 i) (Err Untold) (Err Skipped))) (Ok []))
 
--- a fault of a reply is told of the first zone
+if_late : (b c : Bool) (d : Due) → b ≡ true
+    → told (cond (b || c) name (codes "UTC")) (followed (behind [] (cond b (Err Untold) d)) (Ok [])) ≡ Err (codes "\"Europe/Berlin\": the zone's rules end before that year")
+unfolding name
+if_late true c d e = refl
+if_late false c d e = cc
+
+-- a fault of a reply is told of the first zone where it is that zone's
 too_late : answer Epoch (codes "convert Europe/Berlin UTC 2100-01-01 00:00") ≡ Err (codes "\"Europe/Berlin\": the zone's rules end before that year")
 unfolding found name berlin_to convert_due is_leap days_in_year days_in_month days_after_zero days_before_zero year_start days_through days_into_year day time_at
     moment seconds_east counted digit_at two_at four_at date_at minute_at second_at offset_at digits_at fraction_at front_at seconds_at
     moment_in local_in in_years zoned_at zoned_in size_at count_at count_in counted_in written_in instant_in asked_in
     day_part time_part value_in two_in size_in offset_in put_any put_option put_word task_in words_in fault_line
-too_late = ap (λ d. told name (followed (behind [] d) (Ok []))) (if_late _ _ (ap (int_lt (pos 2099)) late))
+too_late = if_late _ _ _ (ap (int_lt (pos 2099)) late)
+
+-- else of the other
+late_shown : shown_due Epoch berlin name One (pos 4102444800000000000) ≡ Err Untold
+unfolding shown_due berlin_to if_told winter summer in_force total_in seconds_of day_part
+late_shown = λ i. if_told true (ap (int_lt (pos 2099)) late i) (instant_text Epoch berlin name One (pos 4102444800000000000) (pos 3600))
+
+too_late_for : answer Epoch (codes "convert UTC Europe/Berlin 2100-01-01 00:00") ≡ Err (codes "\"Europe/Berlin\": the zone's rules end before that year")
+unfolding found name winter summer in_force total_in instants_in berlin_to seconds_of each_due convert_due
+    is_leap days_in_year days_in_month days_after_zero days_before_zero year_start days_through days_into_year day time_at
+    moment seconds_east counted digit_at two_at four_at date_at minute_at second_at offset_at digits_at fraction_at front_at seconds_at
+    moment_in local_in in_years zoned_at zoned_in size_at count_at count_in counted_in written_in instant_in asked_in
+    day_part time_part value_in two_in size_in offset_in put_any put_option put_word task_in words_in fault_line
+too_late_for =
+    (λ i. told (cond (ap (int_lt (pos 9999)) late i || false) (codes "UTC") name)
+    (followed (behind [] (cond (ap (int_lt (pos 9999)) late i) (Err Untold) (followed (late_shown i) (Ok [])))) (Ok [])))
 
 -- what stands around readings, and between them
 around : map (λ form. opening form ++ between form ++ closing form) (People ∷ Rfc3339 ∷ Epoch ∷ Json ∷ []) ≡ codes " | " ∷ codes " | " ∷ codes " | " ∷ codes "[,]" ∷ []

@@ -1,6 +1,6 @@
 -- What a name finds, by what is seen of the zone that is opened.
 use Rattle.std.{proofs.Common.{◌≡◌, ℕ, List, Bool, Option, Some, None, option_map, Ok, Err, true, false, refl, sym, ap, ◌∙◌, if◌then◌else◌, IsTrue, inl, inr}, specs.Prelude.{IfSome}, specs.FinMap.{get}}
-use Rattle.sefunjaro.specs.{Replies.{reply_view}, Zones.{GoesOnAs, IsOpened, all_in, ever_in, kept_as, recurrence_in, recurrence_with, set_in, IsKept}, declared.zone.OpenZone.{OpenZone}}
+use Rattle.sefunjaro.specs.{Replies.{reply_view}, Zones.{GoesOnAs, IsOpened, all_in, ever_in, kept_as, origin_in, recurrence_in, recurrence_with, set_in, IsKept}, declared.zone.OpenZone.{OpenZone}, declared.zone.Origin.TheVariants.{Source}}
 use Rattle.tz_ever.specs.{Ever.{ever_total}, Recurrences.{turned, zone_total}, ZoneShown.{zone_set_of}, declared.recurrence.Recurrence.TheVariants.{Never, Later}, ForEver.{ever_years}, Opens.{DoesNotGoOn, IsFoundForEver, IsTooFarLater}, declared.zone_set.ZoneSet.{ZoneSet}}
 use Rattle.tz_lookup.specs.{Compiles.{IsTooFar, IsZoneFault, compiled_in, spans_of}, Sets.{IsAccepted, schedule_of}, declared.compile.ZoneFault.{ZoneFault}, declared.set.FixedTimespanSet.{FixedTimespanSet}}
 use Rattle.tz_lookup.specs.declared.compile.ZoneFault.TheVariants as zone_fault
@@ -85,18 +85,18 @@ unfolding ever_found
 ever_is table name found goes accepted = ever_as table name found goes accepted
 
 -- ---- the zone
-seen_never : (set : FixedTimespanSet) → view_of set None ≡ reply_view Never set
+seen_never : (set : FixedTimespanSet) → view_of set None ≡ reply_view Source Never set
 unfolding zone_total turned
 seen_never set = refl
 
-seen_later : (set ever : FixedTimespanSet) → view_of set (Some ever) ≡ reply_view Later ever
+seen_later : (set ever : FixedTimespanSet) → view_of set (Some ever) ≡ reply_view Source Later ever
 unfolding zone_total turned ever_total
 seen_later set ever = refl
 
 seen_as : (set all : FixedTimespanSet) (found : Option ZoneSet) → IsKept set all found
-    → view_of set (option_map zone_set_of found) ≡ reply_view (recurrence_with found) all
-seen_as set all None kept = seen_never set ∙ ap (reply_view Never) kept
-seen_as set all (Some ever) kept = seen_later set (zone_set_of ever) ∙ ap (reply_view Later) kept
+    → view_of set (option_map zone_set_of found) ≡ reply_view Source (recurrence_with found) all
+seen_as set all None kept = seen_never set ∙ ap (reply_view Source Never) kept
+seen_as set all (Some ever) kept = seen_later set (zone_set_of ever) ∙ ap (reply_view Source Later) kept
 
 viewed : (rulesets : Rulesets) (name : List ℕ) (infos : List ZoneInfo) (set : FixedTimespanSet) (ever : Option FixedTimespanSet)
     → compiled rulesets infos ≡ Ok (spans_of set) → IsTrue (is_in_offset_range (schedule_of set)) → set.name ≡ name
@@ -109,18 +109,18 @@ viewed rulesets name infos set ever compiles range named is unknown =
     ∙ ap (λ e. Ok (view_of set e)) is
 
 pub found_as : (table : Table) (name : List ℕ) (zone : OpenZone) → IsOpened name (compiled_in table name) zone
-    → IsAccepted (schedule_of (set_in zone)) → GoesOnAs table name (ever_in zone) → recurrence_in zone ≡ recurrence_with (ever_in zone)
+    → IsAccepted (schedule_of (set_in zone)) → GoesOnAs table name (ever_in zone) → recurrence_in zone ≡ recurrence_with (ever_in zone) → origin_in zone ≡ Source
     → IfSome (ever_in zone) (λ ever. IsAccepted (schedule_of (zone_set_of ever)))
-    → found_in table name ≡ Ok (reply_view (recurrence_in zone) (all_in zone))
+    → found_in table name ≡ Ok (reply_view (origin_in zone) (recurrence_in zone) (all_in zone))
 unfolding found_in
-found_as table name zone opened accepted goes recurs ever_accepted =
+found_as table name zone opened accepted goes recurs origin ever_accepted =
     let rulesets = get table.rulesets in
     let lines = with_lines (compiled rulesets) (resolved_in table name) (Ok (spans_of (set_in zone))) opened.1 in
     let infos = lines.0 in
     let ever = sym (ap (ever_by rulesets name) lines.1) ∙ ever_as table name (ever_in zone) goes ever_accepted in
     ap (view_in (unknown_words table name) rulesets name) lines.1
     ∙ viewed rulesets name infos (set_in zone) (option_map zone_set_of (ever_in zone)) lines.2 accepted.range opened.0 ever (unknown_words table name)
-    ∙ ap Ok (seen_as (set_in zone) (all_in zone) (ever_in zone) (kept_as zone) ∙ ap (λ r. reply_view r (all_in zone)) (sym recurs))
+    ∙ ap Ok (seen_as (set_in zone) (all_in zone) (ever_in zone) (kept_as zone) ∙ (λ i. reply_view (sym origin i) (sym recurs i) (all_in zone)))
 
 -- ---- no zone
 none_mapped : {A : Type 0} (f : List ZoneInfo → A) (found : Option (List ZoneInfo)) → option_map f found ≡ None → found ≡ None

@@ -11,6 +11,7 @@ use Rattle.zone_spans.specs.{Collapse.{collapsed, kept_of, kept_with, without_fi
 use Rattle.zone_spans.specs.{Faults.{leaves_year_over, schedule_fault_over}, Firings.{line_firings_over, years_over}, GoesOn.{front_of, goes_on, last_goes_on, last_of}, Lines.{Rulesets, zone_lines}, Schedules.{instants, total_at, totals_of}}
 use Rattle.zone_spans.specs.{Windows.{line_end}, declared.fault.SpanFault.TheVariants.{MissingUntil}, declared.span.FixedTimespan.{FixedTimespan}}
 use Rattle.zone_spans.specs.declared.span.FixedTimespanSet as spans
+use Rattle.zone_words.specs.ToldWords.{told_word}
 use Rattle.zone_table.specs.{Formats.{abbreviation}, Moments.{instant_of}, declared.table.Table.{Table}, declared.zone.Format.TheVariants.{Constant}, declared.zone.Saving.{Saving}, declared.zone.Saving.TheVariants.{NoSaving, OneOff}, declared.zone.ZoneInfo.{ZoneInfo}, Days.{is_in_year, named_day}, declared.change.ChangeTime.{ChangeTime}, declared.change.ChangeTime.TheVariants.{UntilTime, UntilYear}, declared.day.DaySpec.TheVariants.{Ordinal}, declared.month.Month.TheVariants.{January}, declared.{time.TimeSpec.TheVariants.{Zero}, time.TimeType.TheVariants.{Standard}, year.Year.TheVariants.{Number}}}
 use Rattle.zone_tree.specs.{Names.{finds_in_table}, Trees.{tree_by}, declared.refusal.Why.{Why}}
 
@@ -134,7 +135,7 @@ module _ (table : Table) (is : entries_of table ≡ record { name = codes "Test/
 module _ (table : Table) (name : List ℕ) (Says : FixedTimespanSet → Answer → Type 0) where
   -- a zone that ends has no file and no string, in these words
   ending : (view : ZoneView) → found_in table name ≡ Ok view → ever_found table name ≡ None
-      → IsWhole Says table name (Err (codes "the rules of this zone end, so it doesn't go on for ever"))
+      → IsWhole Says table name (Err (codes "the rules of this zone end, or aren't found to come again, so it isn't told for ever"))
   ending view found ends = inr (inl (record { view = view; found = found; ends = ends; is = refl }))
 
   unfound : (why : List ℕ) → found_in table name ≡ Err why → IsWhole Says table name (Err why)
@@ -155,7 +156,7 @@ module _ (table : Table) (name : List ℕ) (Says : FixedTimespanSet → Answer �
 
 -- a tree is refused for a name, with its words
 tree_refused : (release : Option (List ℕ)) (table : Table) (words : List ℕ) → IsTreeOf release table false (Err words)
-    → (name : List ℕ) × (why : Why) × (words ≡ ((34 ∷ name) ++ 34 ∷ codes ": ") ++ why_words why)
+    → (name : List ℕ) × (why : Why) × (words ≡ ((34 ∷ told_word name) ++ 34 ∷ codes ": ") ++ why_words why)
 tree_refused release table words is = (is.0, is.1, is.3)
 
 -- to 2099 it is the archive of what the table finds

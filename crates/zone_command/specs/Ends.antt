@@ -1,5 +1,5 @@
 -- How a run ended.
-use Rattle.std.specs.Prelude.{◌≡◌, ◌⊎◌, ◌≤◌, ℕ, Bool, true, false, List, [], Option, Some, None, Ok, Err, IfSome, IsErrAnd, IsOkAnd, MatchOption, ℤ, pos, unwrap_or, codes}
+use Rattle.std.specs.Prelude.{◌≡◌, ◌⊎◌, ◌≤◌, ℕ, Bool, true, false, List, [], Option, Some, None, Ok, Err, IfSome, IsErrAnd, IsOkAnd, MatchOption, ℤ, pos, codes, length, ◌==◌, if◌then◌else◌}
 use Rattle.civil_base.specs.Ranges.{is_in_years}
 use Rattle.zone_command.specs.{Bare.{bare}, Due.{Answers, Makings}, Failures.{Failure, refuses, bad_words, clock_fails, environment_fails, file_fails, file_long, no_memory, errors_at, errors_of, status_at, status_of}, Times.{asks_now}}
 use Rattle.zone_outside.specs.{Exchanges.{ExchangeSeen, Wrote, WrotePart}, Limit.{text_limit}, Outside.{Rose, TooMuch}, Seen.{ShelfSeen, OutputSeen, Grew, GrewBySome}}
@@ -24,9 +24,10 @@ pub record InSeen : Type 0 where
   pub clock : ClockSeen
   pub environment : EnvironmentSeen
 
--- the file of the source: the value of a variable, else the system's
+-- the file of the source: the value of a variable, if it has bytes, else the system's
 abbrev pub file_of : Option (List ℕ) → List ℕ
-file_of value = unwrap_or value (codes "/usr/share/zoneinfo/tzdata.zi")
+file_of None = codes "/usr/share/zoneinfo/tzdata.zi"
+file_of (Some value) = if length value == 0 then codes "/usr/share/zoneinfo/tzdata.zi" else value
 
 -- the file that is named, where the environment isn't asked, else that of SEFUNJARO_TZDATA, else the system's
 abbrev pub IsFile : Option (List ℕ) → EnvironmentSeen → EnvironmentSeen → List ℕ → Type 0

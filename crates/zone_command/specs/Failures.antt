@@ -1,5 +1,6 @@
 -- Why a run has no answer, and what is due of that on standard error.
 use Rattle.std.specs.Prelude.{ℕ, List, [], ◌∷◌, ◌++◌, codes, if◌then◌else◌}
+use Rattle.zone_command.specs.Refusals.{name_words, told_line}
 use Rattle.zone_words.specs.{declared.running.StreamEnd.{StreamEnd}, FaultLines.{fault_line}, Faults.{Fault}, Told.{is_of_time}}
 use Rattle.zone_words.specs.declared.running.StreamEnd.TheVariants as stream
 use Rattle.zone_source.specs.declared.running.Status.{Status}
@@ -17,18 +18,14 @@ pub data Failure : Type 0 where
   file_long : List ℕ → Failure
   no_memory : Failure
 
--- a file's name, and what it lacks
-abbrev pub file_line : List ℕ → List ℕ → List ℕ
-file_line file why = ((((codes "zone: " ++ 34 ∷ []) ++ file) ++ 34 ∷ codes ": ") ++ why) ++ 10 ∷ []
-
 -- what is due on standard error
 unfoldable pub errors_of : Failure → List ℕ
 errors_of (refuses line) = line
 errors_of (bad_words fault) = fault_line fault
 errors_of clock_fails = codes "zone: the clock can't be read" ++ 10 ∷ []
 errors_of environment_fails = codes "zone: the value of SEFUNJARO_TZDATA can't be read" ++ 10 ∷ []
-errors_of (file_fails file) = file_line file (codes "this file can't be read")
-errors_of (file_long file) = file_line file (codes "this file has more than 16,777,216 bytes")
+errors_of (file_fails file) = told_line (name_words file (codes "this file can't be read"))
+errors_of (file_long file) = told_line (name_words file (codes "this file has more than 16,777,216 bytes"))
 errors_of no_memory = codes "zone: out of memory" ++ 10 ∷ []
 
 -- the status: 1 for words in no form, 2 for times and for what the source says, 3, 5, 6

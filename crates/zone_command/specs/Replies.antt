@@ -1,8 +1,8 @@
 -- What is due of words over zones.
-use Rattle.std.specs.Prelude.{◌≡◌, ◌⊎◌, ◌&&◌, ℕ, Bool, true, false, List, [], ◌∷◌, ◌++◌, map, Option, Result, Ok, Err, codes, decimal, int_lt, unwrap_or, ℤ, if◌then◌else◌}
+use Rattle.std.specs.Prelude.{◌≡◌, ◌⊎◌, ◌&&◌, ◌||◌, ℕ, Bool, true, false, List, [], ◌∷◌, ◌++◌, map, Option, Result, Ok, Err, codes, decimal, int_lt, length, ◌==◌, unwrap_or, ℤ, if◌then◌else◌}
 use Rattle.civil_base.specs.Ranges.{is_in_years}
 use Rattle.zone_command.specs.{Answers.{Answer, OfName, lined, of_name, told, ◌>>=◌}, Named.{Found, named_in}, Refusals.{name_words, told_line}, Due.{Answers, Due as Delivered}}
-use Rattle.zone_texts.specs.{Charts.{chart_due}, SeenZones.{Named}, SeenNames.{NameSeen}, Texts.{names_text}, Rings.{rings_due}, Faults.{Due, behind, ended}, Instants.{line_due}, Lists.{list_due}, Readings.{convert_due}, Views.{ZoneView}, declared.fault.ReplyFault.TheVariants.{OutOfYears}}
+use Rattle.zone_texts.specs.{Charts.{chart_due}, SeenZones.{Named}, SeenNames.{NameSeen}, Texts.{names_text}, Rings.{rings_due}, Faults.{Due, behind, ended}, Frames.{framed}, Instants.{is_untold, line_due}, Lists.{list_due}, Readings.{convert_due}, Views.{ZoneView}, declared.fault.ReplyFault.TheVariants.{OutOfYears}}
 use Rattle.zone_words.specs.{declared.answer_form.AnswerForm.{AnswerForm}, Tasks.{TaskAsked, WordsAsked, at_instants, local_time, converted, list_changes, alarm, names, file, posix_string, tree, chart, plain_form}}
 
 -- a line for each instant, behind those that there are
@@ -13,6 +13,10 @@ at_lines form view name text (t ∷ times) = behind text (line_due form view nam
 -- a line for each reading
 abbrev pub convert_lines : AnswerForm → ZoneView → List ℕ → ZoneView → List ℕ → ℤ → Due
 convert_lines form from from_name to to_name x = ended (convert_due form from from_name to to_name (10 ∷ []) x)
+
+-- whose fault it is that a local time of a zone isn't told by another: of the first, where it doesn't tell it or skips it
+abbrev pub at_fault : ZoneView → List ℕ → List ℕ → ℤ → List ℕ
+at_fault from from_name to_name x = if is_untold from x || length (from.readings x) == 0 then from_name else to_name
 
 -- a line for each change from an instant on and before another, whose dates by UTC lie in the years
 unfoldable pub list_lines : AnswerForm → ZoneView → List ℕ → ℤ → ℤ → Due
@@ -35,9 +39,13 @@ named_zones found [] = Ok []
 named_zones found (name ∷ others) =
     named_in found name >>= (λ view. named_zones found others >>= (λ zones. Ok (record { name = name; view = view } ∷ zones)))
 
--- a picture of these over a year
-abbrev pub chart_answer : (List ℕ → Found) → List (List ℕ) → ℕ → Answer
-chart_answer found wanted year = named_zones found wanted >>= (λ zones. told (decimal year) (chart_due zones year))
+-- the lines of these over a year, in a picture between any two texts
+abbrev pub chart_answer : List ℕ → List ℕ → (List ℕ → Found) → List (List ℕ) → ℕ → Answer
+chart_answer head tail found wanted year =
+    named_zones found wanted >>= (λ zones. told (decimal year) (framed head (chart_due zones year) tail))
+
+abbrev pub IsCharted : (List ℕ → Found) → List (List ℕ) → ℕ → Answer → Type 0
+IsCharted found wanted year answer = (head : List ℕ) × (tail : List ℕ) × (chart_answer head tail found wanted year ≡ answer)
 
 -- the changes of a zone from an instant on and before another, whose word is told where it isn't after the first
 abbrev pub list_answer : (List ℕ → Found) → AnswerForm → List ℕ → ℤ → ℤ → List ℕ → Answer
@@ -60,11 +68,10 @@ reply_of found entries form now (at_instants name times) =
     on_zone found name (λ view. told name (at_lines form view name [] (instants_at now times)))
 reply_of found entries form now (local_time name x) = on_zone found name (λ view. told name (convert_lines form view name view name x))
 reply_of found entries form now (converted from to x) =
-    on_zone found from (λ view. on_zone found to (λ other. told from (convert_lines form view from other to x)))
+    on_zone found from (λ view. on_zone found to (λ other. told (at_fault view from to x) (convert_lines form view from other to x)))
 reply_of found entries form now (list_changes name from to word) = list_answer found form name (instant_at now from) (instant_at now to) word
 reply_of found entries form now (alarm name asked) = on_zone found name (λ view. told name (rings_due form view name asked))
 reply_of found entries form now (names word) = Ok (names_text form entries word)
-reply_of found entries form now (chart wanted year) = chart_answer found wanted year
 reply_of found entries form now _ = Ok []
 
 -- what is said of a zone's file and string by its name, and of the tree
@@ -75,6 +82,7 @@ abbrev pub IsReplyTo : (List ℕ → Found) → List NameSeen → (List ℕ → 
 IsReplyTo found entries files strings trees form now (file name) answer = OfName name (files name) answer
 IsReplyTo found entries files strings trees form now (posix_string name) answer = OfName name (strings name) answer
 IsReplyTo found entries files strings trees form now (tree to_2099) answer = trees to_2099 answer
+IsReplyTo found entries files strings trees form now (chart wanted year) answer = IsCharted found wanted year answer
 IsReplyTo found entries files strings trees form now task answer = reply_of found entries form now task ≡ answer
 
 -- the source that the text is read as, and what is due over it

@@ -1,6 +1,6 @@
 -- What is answered to requests, by what names find.
 use Rattle.std.specs.Prelude.{ℕ, Bool, true, false, List, [], ◌∷◌, ◌++◌, Option, Some, None, Ok, Err, ℤ, codes}
-use Rattle.zone_command.specs.{Answers.{Answer, told, ◌>>=◌}, Named.{Found}, Replies.{on_zone}, Requests.{Request, request_in}}
+use Rattle.zone_command.specs.{Answers.{Answer, told, ◌>>=◌}, Named.{Found}, Replies.{at_fault, on_zone}, Requests.{Request, request_in}}
 use Rattle.zone_words.specs.{declared.answer_form.AnswerForm.{AnswerForm, TheVariants.{People, Rfc3339, Epoch, Json}}, Replies.{Replies}, Tasks.{TaskAsked, at_instants, local_time, converted}}
 use Rattle.zone_texts.specs.{Faults.{Due, behind, followed}, Instants.{at_due}, Readings.{convert_due}, Views.{ZoneView}}
 
@@ -43,7 +43,7 @@ abbrev pub answer_of : (List ℕ → Found) → AnswerForm → TaskAsked → Ans
 answer_of found form (at_instants name times) = at_answer found form name times
 answer_of found form (local_time name x) = on_zone found name (λ view. told name (readings_due form view name view name x))
 answer_of found form (converted from to x) =
-    on_zone found from (λ view. on_zone found to (λ other. told from (readings_due form view from other to x)))
+    on_zone found from (λ view. on_zone found to (λ other. told (at_fault view from to x) (readings_due form view from other to x)))
 answer_of found form _ = Err (codes "a request is at, local or convert")
 
 -- the answer to a request that is read, or the words of its fault

@@ -13,13 +13,14 @@ use Rattle.zone_tree.specs.declared.refusal.Why.TheVariants as why
 use Rattle.zone_tzif_core.specs.declared.values.WriteFault.TheVariants as write
 
 abbrev pub ending_words : List ℕ
-ending_words = codes "the rules of this zone end, so it doesn't go on for ever"
+ending_words = codes "the rules of this zone end, or aren't found to come again, so it isn't told for ever"
 
 -- why no string carries a zone on
 abbrev pub tail_words : EverTailFault → List ℕ
+tail_words tail.Saving = codes "no string says this zone for ever: it has daylight saving time for good"
 tail_words tail.Shape = codes "no string says this zone for ever: a year has other changes than one to daylight saving time and one back"
 tail_words tail.OffsetRange = codes "no string says this zone for ever: it has an offset past 24:59:59"
-tail_words tail.Name = codes "no string says this zone for ever: it has an abbreviation that no string has"
+tail_words tail.Name = codes "no string says this zone for ever: an abbreviation isn't three or more letters, digits, + or -"
 tail_words tail.NoRule = codes "no string says this zone for ever: no days of its rules come again each year"
 tail_words tail.NoMemory = codes "out of memory"
 

@@ -1,14 +1,14 @@
 //! What answers over a source.
 ghost use Rattle.std.specs.Prelude.{◌≡◌, ◌≤◌, length, [], map, option_map, Ok};
 ghost use Rattle.civil_base.specs.DateTimes.{instant};
-ghost use Rattle.zone_command.specs.{Answers.{OfName, lined, of_name, told, IsAnswer, IsGiven}, Replies.{at_lines, convert_lines, instants_at, list_answer, on_zone, reply_of, IsDueOver, IsReplyTo, IsZoneOver, asks_form}, Due.{IsDue}};
+ghost use Rattle.zone_command.specs.{Answers.{OfName, lined, of_name, told, IsAnswer, IsGiven}, Replies.{at_fault, at_lines, convert_lines, instants_at, list_answer, on_zone, reply_of, IsDueOver, IsReplyTo, IsZoneOver, asks_form}, Due.{IsDue}};
 ghost use Rattle.zone_words.specs.{TimesShown.{asked as asked_of}, TaskShown.{alarm_shown, task_shown, words_shown}};
 ghost use Rattle.zone_texts.specs.{Texts.{names_text}, Rings.{rings_due}};
 
 use crate::AnswerFault;
-use crate::answers::{refusal_of, told};
+use crate::answers::{refusal_of, told, told_between};
 use crate::charts::chart_reply;
-use crate::line::{name_words, told_line};
+use crate::line::{name_words, named_line, told_line};
 use crate::named::find_named;
 use crate::replies::{at_lines, convert_lines, list_lines, moment_of, ring_lines};
 use crate::source::{Refusal, ZoneSource};
@@ -57,12 +57,12 @@ fn convert_reply<S: ZoneSource>(
     local: &PlainDateTime,
 ) -> Result<Vec<u8>, Refusal>
     ensures { IsAnswer (on_zone (S.found source.now) from_name.now (λ view. on_zone (S.found source.now) style.now.name.now (λ other.
-        told from_name.now (convert_lines style.now.form view from_name.now other style.now.name.now local.now)))) result }
+        told (at_fault view from_name.now style.now.name.now local.now) (convert_lines style.now.form view from_name.now other style.now.name.now local.now)))) result }
 {
     let from = find_named(alloc, source, from_name)?;
     let to = find_named(alloc, source, style.name)?;
     let lines = convert_lines(alloc, &from, from_name, &to, style, local);
-    told(alloc, from_name, lines)
+    told_between(alloc, &from, from_name, style.name, local, lines)
 }
 
 /// The answer to `list`, of which the second instant has that word.
@@ -196,10 +196,7 @@ fn form_due<S: ZoneSource>(alloc: Global, file: &str, text: &[u8]) -> Result<Vec
 {
     match S::plain_form(alloc, text) {
         Ok(form) => Ok(form),
-        Err(Refusal::Why(why)) => {
-            let words = name_words(alloc, file, &why)?;
-            Err(AnswerFault::Line(told_line(alloc, &words)?))
-        }
+        Err(Refusal::Why(why)) => Err(AnswerFault::Line(named_line(alloc, file, &why)?)),
         Err(Refusal::NoMemory) => Err(AnswerFault::NoMemory),
     }
 }
@@ -221,10 +218,7 @@ fn reply_due<S: ZoneSource>(
             Err(Refusal::Why(words)) => Err(AnswerFault::Line(told_line(alloc, &words)?)),
             Err(Refusal::NoMemory) => Err(AnswerFault::NoMemory),
         },
-        Err(Refusal::Why(why)) => {
-            let words = name_words(alloc, file, &why)?;
-            Err(AnswerFault::Line(told_line(alloc, &words)?))
-        }
+        Err(Refusal::Why(why)) => Err(AnswerFault::Line(named_line(alloc, file, &why)?)),
         Err(Refusal::NoMemory) => Err(AnswerFault::NoMemory),
     }
 }

@@ -1,14 +1,14 @@
 //! A source in any form that `zic` reads: its names, its zones, their files and strings, and the tree.
 ghost use Rattle.std.specs.Prelude.{◌≡◌, ℕ, List, map, option_map, Ok, Err, IfErr, IfOk, IfSome};
-ghost use Rattle.sefunjaro.specs.{Replies.{reply_view}, Sources.{release_in, table_in}, Zones.{all_in, ever_in, recurrence_in}};
+ghost use Rattle.sefunjaro.specs.{AnySources.{IsAnySource}, Replies.{reply_view}, Sources.{release_in, table_in}, Zones.{all_in, ever_in, origin_in, recurrence_in}};
 ghost use Rattle.tz_ever.specs.ZoneShown.{zone_set_of};
 ghost use Rattle.tz_lookup.specs.Sets.{IsAccepted, schedule_of};
-ghost use Rattle.zone_command.specs.{Answers.{IsGiven}, Refusals.{IsTold}, Views.{IsToldAs, entries_of, entry_of, ever_found, found_in, unknown_words}, Wholes.{IsFileOf, IsStringOf, IsTreeBy, IsWhole, OfTreeTo2099}};
+ghost use Rattle.zone_command.specs.{Answers.{IsGiven}, Refusals.{IsTold}, Sources.{HasFault}, Views.{IsToldAs, entries_of, entry_of, ever_found, found_in, unknown_words}, Wholes.{IsFileOf, IsStringOf, IsTreeBy, IsWhole, OfTreeTo2099}};
 ghost use Rattle.zone_texts.specs.SeenNames.{name_seen};
 ghost use Rattle.zone_tree.specs.EverTrees.{OfTree};
 ghost use Rattle.zone_table.specs.declared.table.Table.{Table};
 
-use crate::forms::{COMPILED, form_of, is_compiled};
+use crate::forms::{form_of, look_at};
 use crate::line::name_words;
 use crate::over::PlainSource;
 use crate::plain::PlainStream;
@@ -32,12 +32,12 @@ pub struct AnySource {
 }
 
 impl ZoneSource for AnySource {
-    ghost use Rattle.sefunjaro.specs.{AnySources.{IsAnySource}, Sources.{release_in, table_in}};
-    ghost use Rattle.zone_command.specs.{Sources.{IsUnread, form_of}, Views.{entries_of, found_in}, Wholes.{IsFileOf, IsStringOf, IsTreeOf, IsWhole}};
+    ghost use Rattle.sefunjaro.specs.Sources.{release_in, table_in};
+    ghost use Rattle.zone_command.specs.{Sources.{IsRead, IsUnread, form_of}, Views.{entries_of, found_in}, Wholes.{IsFileOf, IsStringOf, IsTreeOf, IsWhole}};
 
     type Zone = OpenZone;
 
-    ghost reads = { λ text source. IsAnySource text source.source };
+    ghost reads = { λ text source. IsRead text source.source };
 
     ghost unread = { IsUnread };
 
@@ -54,14 +54,8 @@ impl ZoneSource for AnySource {
     ghost forms = { form_of };
 
     fn open(alloc: Global, text: &[u8]) -> Result<AnySource, Refusal> {
-        if is_compiled(text) {
-            return Err(Refusal::Why(COMPILED.to_vec(alloc)?));
-        }
-        match OpenSource::open(alloc, text) {
-            Ok(source) => Ok(AnySource { source }),
-            Err(AnySourceFault::NoMemory) => Err(Refusal::NoMemory),
-            Err(fault) => Err(Refusal::Why(fault_words(alloc, &fault)?)),
-        }
+        look_at(alloc, text)?;
+        open_any(alloc, text)
     }
 
     fn zone(&self, alloc: Global, name: &str) -> Result<OpenZone, Refusal> {
@@ -106,9 +100,10 @@ impl PlainSource for AnySource {
     ghost plain = { λ source. plain_replies (table_in source.source) };
 
     fn open_plainly(alloc: Global, text: &[u8]) -> Result<AnySource, Refusal> {
+        look_at(alloc, text)?;
         match OpenSource::open_plain(alloc, text) {
             Ok(source) => Ok(AnySource { source }),
-            Err(OpenFault::Source(_)) => AnySource::open(alloc, text),
+            Err(OpenFault::Source(_)) => open_any(alloc, text),
             Err(OpenFault::TooLong) => unreachable!(),
             Err(OpenFault::NoMemory) => Err(Refusal::NoMemory),
         }
@@ -119,8 +114,21 @@ impl PlainSource for AnySource {
     }
 }
 
+/// Reads a source that isn't refused at first sight.
+fn open_any(alloc: Global, text: &[u8]) -> Result<AnySource, Refusal>
+    ensures ok { IfOk result (λ source. IsAnySource text.now source.source) }
+    ensures err { IfErr result (IsTold (HasFault text.now)) }
+{
+    match OpenSource::open(alloc, text) {
+        Ok(source) => Ok(AnySource { source }),
+        Err(AnySourceFault::NoMemory) => Err(Refusal::NoMemory),
+        Err(fault) => Err(Refusal::Why(fault_words(alloc, &fault)?)),
+    }
+}
+
 /// What is told of a zone that doesn't go on.
-const ENDING: &[u8] = b"the rules of this zone end, so it doesn't go on for ever";
+const ENDING: &[u8] =
+    b"the rules of this zone end, or aren't found to come again, so it isn't told for ever";
 
 /// A name, and the name that it leads to where it is a link's.
 fn entry_of<'s>(table: &'s Table, name: &'s str) -> NameEntry<'s>
@@ -178,7 +186,7 @@ fn accepted_for_ever(zone: &OpenZone)
 
 /// The zone of a name, or the fault that keeps it from being asked.
 fn opened(alloc: Global, source: &OpenSource, name: &str) -> Result<OpenZone, ZoneFault>
-    ensures ok { IfOk result (λ zone. found_in (table_in source.now) name.now ≡ Ok (reply_view (recurrence_in zone) (all_in zone))) }
+    ensures ok { IfOk result (λ zone. found_in (table_in source.now) name.now ≡ Ok (reply_view (origin_in zone) (recurrence_in zone) (all_in zone))) }
     ensures ever { IfOk result (λ zone. ever_found (table_in source.now) name.now ≡ option_map zone_set_of (ever_in zone)) }
     ensures err { IfErr result (IsToldAs (table_in source.now) name.now) }
 {
@@ -193,7 +201,7 @@ fn opened(alloc: Global, source: &OpenSource, name: &str) -> Result<OpenZone, Zo
 
 /// The zone of a name.
 fn zone_of(alloc: Global, source: &OpenSource, name: &str) -> Result<OpenZone, Refusal>
-    ensures ok { IfOk result (λ zone. found_in (table_in source.now) name.now ≡ Ok (reply_view (recurrence_in zone) (all_in zone))) }
+    ensures ok { IfOk result (λ zone. found_in (table_in source.now) name.now ≡ Ok (reply_view (origin_in zone) (recurrence_in zone) (all_in zone))) }
     ensures ever { IfOk result (λ zone. ever_found (table_in source.now) name.now ≡ option_map zone_set_of (ever_in zone)) }
     ensures err { IfErr result (IsTold (λ why. found_in (table_in source.now) name.now ≡ Err why)) }
 {
@@ -212,7 +220,7 @@ fn zone_of(alloc: Global, source: &OpenSource, name: &str) -> Result<OpenZone, R
 
 /// The file of a zone, if it goes on.
 fn file_in(alloc: Global, zone: &OpenZone) -> Result<Vec<u8>, Refusal>
-    ensures { (table : Table) (name : List ℕ) → found_in table name ≡ Ok (reply_view (recurrence_in zone.now) (all_in zone.now))
+    ensures { (table : Table) (name : List ℕ) → found_in table name ≡ Ok (reply_view (origin_in zone.now) (recurrence_in zone.now) (all_in zone.now))
         → ever_found table name ≡ option_map zone_set_of (ever_in zone.now) → IsGiven (IsWhole IsFileOf table name) result }
 {
     match zone.for_ever() {
@@ -235,7 +243,7 @@ fn file_of(alloc: Global, ever: &ZoneSet) -> Result<Vec<u8>, Refusal>
 
 /// The line of the string of a zone, if it goes on.
 fn string_in(alloc: Global, zone: &OpenZone) -> Result<Vec<u8>, Refusal>
-    ensures { (table : Table) (name : List ℕ) → found_in table name ≡ Ok (reply_view (recurrence_in zone.now) (all_in zone.now))
+    ensures { (table : Table) (name : List ℕ) → found_in table name ≡ Ok (reply_view (origin_in zone.now) (recurrence_in zone.now) (all_in zone.now))
         → ever_found table name ≡ option_map zone_set_of (ever_in zone.now) → IsGiven (IsWhole IsStringOf table name) result }
 {
     match zone.for_ever() {

@@ -1,7 +1,7 @@
 //! Pictures of zones.
 ghost use Rattle.std.specs.Prelude.{◌≡◌, ◌∷◌, ℕ, List, map, IfErr, IfOk, OnOk, Ok, Err};
-ghost use Rattle.zone_command.specs.{Answers.{IsAnswer, IsReply}, Named.{named_view}, Refusals.{IsTold}, Replies.{behind_found, chart_answer, named_zones, IsStep}};
-ghost use Rattle.zone_texts.specs.{Charts.{chart_due}, SeenZones.{Named, named}};
+ghost use Rattle.zone_command.specs.{Answers.{IsGiven}, Named.{named_view}, Refusals.{IsTold}, Replies.{behind_found, named_zones, IsCharted, IsStep}};
+ghost use Rattle.zone_texts.specs.{SeenZones.{Named, named}};
 ghost use Rattle.zone_words.specs.Shown.{word_shown};
 
 use crate::answers::told;
@@ -9,7 +9,7 @@ use crate::named::{NamedZone, find_named};
 use crate::source::{Refusal, ZoneSource};
 use itoa::Buffer;
 use std::alloc::Global;
-use zone_texts::{ChartZone, ReplyFault, ReplyZone, add_chart};
+use zone_texts::{ChartZone, chart_of};
 
 /// Adds the zone that a name finds.
 fn add_charted<'n, S: ZoneSource>(
@@ -54,23 +54,6 @@ fn charted<'n, S: ZoneSource>(
     Ok(zones)
 }
 
-/// The picture of zones over a year.
-fn picture<Z: ReplyZone>(
-    alloc: Global,
-    zones: &[ChartZone<'_, Z>],
-    year: u16,
-) -> Result<Vec<u8>, ReplyFault>
-    ensures { IsReply (chart_due (map (named Z.view) zones.now) year) result }
-{
-    let mut text = Vec::new(alloc);
-    match add_chart(&mut text, alloc, zones, year) {
-        Ok(()) => Ok(text),
-        Err(ReplyFault::OutOfYears) => Err(ReplyFault::OutOfYears),
-        Err(ReplyFault::Untold) => Err(ReplyFault::Untold),
-        Err(ReplyFault::NoMemory) => Err(ReplyFault::NoMemory),
-    }
-}
-
 /// The answer to `chart`.
 pub(crate) fn chart_reply<S: ZoneSource>(
     alloc: Global,
@@ -78,9 +61,9 @@ pub(crate) fn chart_reply<S: ZoneSource>(
     names: &[&str],
     year: u16,
 ) -> Result<Vec<u8>, Refusal>
-    ensures { IsAnswer (chart_answer (S.found source.now) (map word_shown names.now) year) result }
+    ensures { IsGiven (IsCharted (S.found source.now) (map word_shown names.now) year) result }
 {
     let zones = charted(alloc, source, names)?;
-    let text = picture(alloc, &zones, year);
+    let text = chart_of(alloc, &zones, year);
     told(alloc, Buffer::new().format(year), text)
 }

@@ -1,7 +1,8 @@
 //! Why a run has no answer.
-ghost use Rattle.std.specs.Prelude.{◌≡◌, ◌++◌, ◌∷◌, [], IfOk};
-ghost use Rattle.zone_command.specs.{Failures.{errors_at, errors_of, file_line, status_at, status_of}, FailureShown.{failure_shown}};
+ghost use Rattle.std.specs.Prelude.{◌≡◌, IfOk};
+ghost use Rattle.zone_command.specs.{Failures.{errors_at, errors_of, status_at, status_of}, FailureShown.{failure_shown}};
 
+use crate::line::named_line;
 use std::alloc::{AllocError, Global};
 use zone_source::Status;
 use zone_words::{StreamEnd, WordFault, fault_line};
@@ -36,19 +37,6 @@ impl From<AllocError> for Failure<'_> {
     }
 }
 
-/// The line that tells what a file lacks.
-fn file_line(alloc: Global, file: &str, why: &str) -> Result<Vec<u8>, AllocError>
-    ensures { IfOk result (λ line. line.items ≡ file_line file.now why.now) }
-{
-    let mut line = Vec::new(alloc);
-    line.extend_from_slice(b"zone: \"")?;
-    line.extend_from_slice(file.as_bytes())?;
-    line.extend_from_slice(b"\": ")?;
-    line.extend_from_slice(why.as_bytes())?;
-    line.push(b'\n')?;
-    Ok(line)
-}
-
 /// The line that tells it.
 #[tactic(auto, unfolding(crate::specs::Failures::errors_of))]
 pub(crate) fn line_of(alloc: Global, failure: &Failure<'_>) -> Result<Vec<u8>, AllocError>
@@ -61,11 +49,11 @@ pub(crate) fn line_of(alloc: Global, failure: &Failure<'_>) -> Result<Vec<u8>, A
         Failure::Environment => {
             b"zone: the value of SEFUNJARO_TZDATA can't be read\n".to_vec(alloc)
         }
-        Failure::File(file) => file_line(alloc, file.as_str(), "this file can't be read"),
-        Failure::Long(file) => file_line(
+        Failure::File(file) => named_line(alloc, file.as_str(), b"this file can't be read"),
+        Failure::Long(file) => named_line(
             alloc,
             file.as_str(),
-            "this file has more than 16,777,216 bytes",
+            b"this file has more than 16,777,216 bytes",
         ),
         Failure::NoMemory => Err(AllocError),
     }

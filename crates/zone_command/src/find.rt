@@ -64,12 +64,16 @@ fn moment<K: WallClock>(task: &Task<'_>, clock: &mut K) -> Result<OffsetDateTime
     }
 }
 
-/// The value of a variable, else the system's file.
+/// The value of a variable, if it has bytes, else the system's file.
 fn file_of(value: &Option<String>) -> &str
     ensures { result.now ≡ file_of (option_map string_bytes value.now) }
 {
     match value {
-        Some(file) => file.as_str(),
+        Some(file) => if file.is_empty() {
+            SYSTEM_SOURCE
+        } else {
+            file.as_str()
+        },
         None => SYSTEM_SOURCE,
     }
 }

@@ -36,7 +36,8 @@ A TIME is now, @1729989000 or @1729989000.25, or 2024-10-27T02:30:00+02:00.
 
 /// What `zone local --help` writes.
 pub const HELP_LOCAL: &str =
-    "zone local NAME TEXT writes every instant of a local time, or the change that skips it.
+    "zone local NAME TEXT writes every instant of a local time, or the change that skips it,
+which is a fault by --rfc3339 and --epoch.
 A TEXT is 2024-10-27 02:30, maybe with seconds, with a T or a space.
 ";
 
@@ -85,7 +86,8 @@ pub const HELP_LOG: &str =
 at each line's beginning, or in field K, which counts from 1. Other lines stay as they are.
 It takes --rfc3339 and --epoch.
 A time is 2024-10-27T02:30:00+02:00, @1729989000, or a number of 9 to 11 digits of seconds,
-12 to 14 of milliseconds, 15 to 17 of microseconds, or 18 to 20 of nanoseconds.
+12 to 14 of milliseconds, 15 to 17 of microseconds, or 18 to 20 of nanoseconds, in the years
+1990 to 2059.
 ";
 
 /// What `zone tree --help` writes.

@@ -1,13 +1,13 @@
 //! The answers to requests, by zones that are kept.
 ghost use Rattle.std.specs.Prelude.{◌≡◌, map, true};
 ghost use Rattle.civil_base.specs.DateTimes.{instant};
-ghost use Rattle.zone_command.specs.{Answers.{told, IsAnswer}, Replies.{on_zone}, Kept.{is_kept}, Streams.{at_answer, own_instant, readings_due}};
+ghost use Rattle.zone_command.specs.{Answers.{told, IsAnswer}, Replies.{at_fault, on_zone}, Kept.{is_kept}, Streams.{at_answer, own_instant, readings_due}};
 ghost use Rattle.zone_words.specs.TimesShown.{asked};
 ghost use Rattle.zone_texts.specs.Instants.{at_due};
 
 use crate::kept::KeptZones;
 use crate::offset::offset_in;
-use crate::readings::{at_told, readings_told};
+use crate::readings::{at_told, convert_told, local_told};
 use crate::source::{Refusal, ZoneSource};
 use crate::words::refused;
 use civil_base::{OffsetDateTime, PlainDateTime};
@@ -48,12 +48,9 @@ fn local_kept<S: ZoneSource>(
     match offset_in(name) {
         Some(offset) => {
             let zone = FixedZone { name, offset };
-            readings_told(alloc, &zone, name, &zone, style, local)
+            local_told(alloc, &zone, style, local)
         }
-        None => {
-            let zone = kept.zone(name);
-            readings_told(alloc, zone, name, zone, style, local)
-        }
+        None => local_told(alloc, kept.zone(name), style, local),
     }
 }
 
@@ -68,15 +65,15 @@ fn convert_from<S: ZoneSource, F: ReplyZone>(
 ) -> Result<Vec<u8>, Refusal>
     requires { is_kept kept.now.zones style.now.name.now ≡ true }
     ensures { IsAnswer (on_zone (S.found kept.now.source.now) style.now.name.now (λ other.
-        told from_name.now (readings_due style.now.form (F.view from.now) from_name.now other style.now.name.now local.now))) result }
+        told (at_fault (F.view from.now) from_name.now style.now.name.now local.now) (readings_due style.now.form (F.view from.now) from_name.now other style.now.name.now local.now))) result }
 {
     let name = style.name;
     match offset_in(name) {
         Some(offset) => {
             let to = FixedZone { name, offset };
-            readings_told(alloc, from, from_name, &to, style, local)
+            convert_told(alloc, from, from_name, &to, style, local)
         }
-        None => readings_told(alloc, from, from_name, kept.zone(name), style, local),
+        None => convert_told(alloc, from, from_name, kept.zone(name), style, local),
     }
 }
 
@@ -91,7 +88,7 @@ fn convert_kept<S: ZoneSource>(
     requires from { is_kept kept.now.zones from_name.now ≡ true }
     requires to { is_kept kept.now.zones style.now.name.now ≡ true }
     ensures { IsAnswer (on_zone (S.found kept.now.source.now) from_name.now (λ view. on_zone (S.found kept.now.source.now) style.now.name.now (λ other.
-        told from_name.now (readings_due style.now.form view from_name.now other style.now.name.now local.now)))) result }
+        told (at_fault view from_name.now style.now.name.now local.now) (readings_due style.now.form view from_name.now other style.now.name.now local.now)))) result }
 {
     match offset_in(from_name) {
         Some(offset) => {
@@ -169,7 +166,7 @@ pub(crate) fn convert_answer<S: ZoneSource>(
 ) -> Result<Vec<u8>, Refusal>
     ensures source { kept.new.source.now ≡ kept.old.source.now }
     ensures answer { IsAnswer (on_zone (S.found kept.old.source.now) from_name.now (λ view. on_zone (S.found kept.old.source.now) style.now.name.now (λ other.
-        told from_name.now (readings_due style.now.form view from_name.now other style.now.name.now local.now)))) result }
+        told (at_fault view from_name.now style.now.name.now local.now) (readings_due style.now.form view from_name.now other style.now.name.now local.now)))) result }
 {
     kept.keep(alloc, from_name)?;
     kept.keep(alloc, style.name)?;

@@ -4,8 +4,9 @@ ghost use Rattle.zone_command.specs.Refusals.{fault_words, name_words, told_line
 
 use std::alloc::{AllocError, Global};
 use zone_texts::ReplyFault;
+use zone_words::add_told_word;
 
-/// A word in quotes, and what is told of it.
+/// A word in quotes, as words are told, and what is told of it.
 ///
 /// # Errors
 ///
@@ -15,7 +16,7 @@ pub fn name_words(alloc: Global, word: &str, why: &[u8]) -> Result<Vec<u8>, Allo
 {
     let mut words = Vec::new(alloc);
     words.push(b'"')?;
-    words.extend_from_slice(word.as_bytes())?;
+    add_told_word(&mut words, word)?;
     words.extend_from_slice(b"\": ")?;
     words.extend_from_slice(why)?;
     Ok(words)
@@ -36,6 +37,14 @@ pub fn told_line(alloc: Global, words: &[u8]) -> Result<Vec<u8>, AllocError>
     Ok(line)
 }
 
+/// The line that tells what a word lacks.
+pub(crate) fn named_line(alloc: Global, word: &str, why: &[u8]) -> Result<Vec<u8>, AllocError>
+    ensures { IfOk result (λ line. line.items ≡ told_line (name_words word.now why.now)) }
+{
+    let words = name_words(alloc, word, why)?;
+    told_line(alloc, &words)
+}
+
 /// What is told of a fault of a reply.
 pub(crate) fn fault_words(fault: ReplyFault) -> &'static str
     ensures { result.now ≡ fault_words fault }
@@ -43,6 +52,7 @@ pub(crate) fn fault_words(fault: ReplyFault) -> &'static str
     match fault {
         ReplyFault::OutOfYears => "a date lies outside the years -9999 to 9999",
         ReplyFault::Untold => "the zone's rules end before that year",
+        ReplyFault::Skipped => "clocks skip this local time",
         ReplyFault::NoMemory => "out of memory",
     }
 }

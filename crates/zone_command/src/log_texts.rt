@@ -53,6 +53,7 @@ impl<Z: ReplyZone> InstantTexts for ZoneTexts<'_, Z> {
             Ok(()) => Ok(true),
             Err(ReplyFault::OutOfYears) => Ok(false),
             Err(ReplyFault::Untold) => Ok(false),
+            Err(ReplyFault::Skipped) => Ok(false),
             Err(ReplyFault::NoMemory) => Err(AllocError),
         }
     }

@@ -5,7 +5,7 @@ ghost use Rattle.zone_command.specs.{Refusals.{IsTold}, Makes.{IsServedBy, chose
 
 use crate::answerer::{AnswerFault, Answerer};
 use crate::answering::answer_over;
-use crate::line::{name_words, told_line};
+use crate::line::{named_line, told_line};
 use crate::named::find_named;
 use crate::serving::{serve_log, serve_stream};
 use crate::source::{Refusal, ZoneSource};
@@ -138,10 +138,7 @@ impl<S: ZoneSource + PlainSource> Answerer for OverSource<S> {
                 Err(Refusal::Why(words)) => Err(AnswerFault::Line(told_line(alloc, &words)?)),
                 Err(Refusal::NoMemory) => Err(AnswerFault::NoMemory),
             },
-            Err(Refusal::Why(why)) => {
-                let words = name_words(alloc, file, &why)?;
-                Err(AnswerFault::Line(told_line(alloc, &words)?))
-            }
+            Err(Refusal::Why(why)) => Err(AnswerFault::Line(named_line(alloc, file, &why)?)),
             Err(Refusal::NoMemory) => Err(AnswerFault::NoMemory),
         }
     }

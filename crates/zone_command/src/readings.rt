@@ -1,10 +1,10 @@
 //! The replies to requests, each on one line.
 ghost use Rattle.std.specs.Prelude.{◌≡◌};
 ghost use Rattle.civil_base.specs.DateTimes.{instant};
-ghost use Rattle.zone_command.specs.{Answers.{told, IsAnswer, IsReply}, Streams.{between, closing, opening, readings_due}};
+ghost use Rattle.zone_command.specs.{Answers.{told, IsAnswer, IsReply}, Replies.{at_fault}, Streams.{between, closing, opening, readings_due}};
 ghost use Rattle.zone_texts.specs.Instants.{at_due};
 
-use crate::answers::told;
+use crate::answers::{told, told_between};
 use crate::source::Refusal;
 use civil_base::{OffsetDateTime, PlainDateTime};
 use std::alloc::Global;
@@ -25,6 +25,7 @@ fn at_text<Z: ReplyZone>(
         Ok(()) => Ok(text),
         Err(ReplyFault::OutOfYears) => Err(ReplyFault::OutOfYears),
         Err(ReplyFault::Untold) => Err(ReplyFault::Untold),
+        Err(ReplyFault::Skipped) => Err(ReplyFault::Skipped),
         Err(ReplyFault::NoMemory) => Err(ReplyFault::NoMemory),
     }
 }
@@ -100,12 +101,26 @@ fn readings_text<F: ReplyZone, T: ReplyZone>(
         }
         Err(ReplyFault::OutOfYears) => Err(ReplyFault::OutOfYears),
         Err(ReplyFault::Untold) => Err(ReplyFault::Untold),
+        Err(ReplyFault::Skipped) => Err(ReplyFault::Skipped),
         Err(ReplyFault::NoMemory) => Err(ReplyFault::NoMemory),
     }
 }
 
-/// All readings of a local time, or what skips it, or the words of the fault.
-pub(crate) fn readings_told<F: ReplyZone, T: ReplyZone>(
+/// All readings of a local time in its own zone, or what skips it, or the words of the fault.
+pub(crate) fn local_told<Z: ReplyZone>(
+    alloc: Global,
+    zone: &Z,
+    style: &Style<'_>,
+    local: &PlainDateTime,
+) -> Result<Vec<u8>, Refusal>
+    ensures { IsAnswer (told style.now.name.now (readings_due style.now.form (Z.view zone.now) style.now.name.now (Z.view zone.now) style.now.name.now local.now)) result }
+{
+    let text = readings_text(alloc, zone, style.name, zone, style, local);
+    told(alloc, style.name, text)
+}
+
+/// The same in another.
+pub(crate) fn convert_told<F: ReplyZone, T: ReplyZone>(
     alloc: Global,
     from: &F,
     from_name: &str,
@@ -113,8 +128,9 @@ pub(crate) fn readings_told<F: ReplyZone, T: ReplyZone>(
     style: &Style<'_>,
     local: &PlainDateTime,
 ) -> Result<Vec<u8>, Refusal>
-    ensures { IsAnswer (told from_name.now (readings_due style.now.form (F.view from.now) from_name.now (T.view to.now) style.now.name.now local.now)) result }
+    ensures { IsAnswer (told (at_fault (F.view from.now) from_name.now style.now.name.now local.now)
+        (readings_due style.now.form (F.view from.now) from_name.now (T.view to.now) style.now.name.now local.now)) result }
 {
     let text = readings_text(alloc, from, from_name, to, style, local);
-    told(alloc, from_name, text)
+    told_between(alloc, from, from_name, style.name, local, text)
 }

@@ -39,6 +39,7 @@ pub(crate) fn at_lines<Z: ReplyZone>(
             Ok(()) => {}
             Err(ReplyFault::OutOfYears) => return Err(ReplyFault::OutOfYears),
             Err(ReplyFault::Untold) => return Err(ReplyFault::Untold),
+            Err(ReplyFault::Skipped) => return Err(ReplyFault::Skipped),
             Err(ReplyFault::NoMemory) => return Err(ReplyFault::NoMemory),
         }
     }
@@ -64,6 +65,7 @@ pub(crate) fn convert_lines<F: ReplyZone, T: ReplyZone>(
         }
         Err(ReplyFault::OutOfYears) => Err(ReplyFault::OutOfYears),
         Err(ReplyFault::Untold) => Err(ReplyFault::Untold),
+        Err(ReplyFault::Skipped) => Err(ReplyFault::Skipped),
         Err(ReplyFault::NoMemory) => Err(ReplyFault::NoMemory),
     }
 }
@@ -102,6 +104,7 @@ pub(crate) fn list_lines<Z: ReplyZone>(
         Ok(()) => Ok(text),
         Err(ReplyFault::OutOfYears) => Err(ReplyFault::OutOfYears),
         Err(ReplyFault::Untold) => Err(ReplyFault::Untold),
+        Err(ReplyFault::Skipped) => Err(ReplyFault::Skipped),
         Err(ReplyFault::NoMemory) => Err(ReplyFault::NoMemory),
     }
 }
@@ -120,6 +123,7 @@ pub(crate) fn ring_lines<Z: ReplyZone>(
         Ok(()) => Ok(text),
         Err(ReplyFault::OutOfYears) => Err(ReplyFault::OutOfYears),
         Err(ReplyFault::Untold) => Err(ReplyFault::Untold),
+        Err(ReplyFault::Skipped) => Err(ReplyFault::Skipped),
         Err(ReplyFault::NoMemory) => Err(ReplyFault::NoMemory),
     }
 }

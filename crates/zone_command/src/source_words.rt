@@ -1,5 +1,5 @@
 //! What is told of faults, in words.
-ghost use Rattle.std.specs.Prelude.{◌≡◌, IfOk};
+ghost use Rattle.std.specs.Prelude.{◌≡◌, IfOk, codes, false};
 ghost use Rattle.zone_command.specs.{Causes.{cause_words, form_words, join_words, kind_words, line_words, of_text}, Sources.{fault_words}, Views.{schedule_words}, Wholes.{changes_words, file_words, tail_words, why_words}};
 
 use itoa::Buffer;
@@ -71,6 +71,13 @@ fn line_words(
     words.extend_from_slice(of_text(in_form))?;
     words.extend_from_slice(why)?;
     Ok(words)
+}
+
+/// What is told of a source that was cut short within the line of that number.
+pub(crate) fn cut_words(alloc: Global, number: usize) -> Result<Vec<u8>, AllocError>
+    ensures { IfOk result (λ words. words.items ≡ line_words number false (codes "the source ends in the middle of it")) }
+{
+    line_words(alloc, number, false, b"the source ends in the middle of it")
 }
 
 /// Why a line has no plain form.
@@ -152,12 +159,14 @@ pub(crate) fn tail_words(fault: EverTailFault) -> &'static [u8]
     ensures { result.now ≡ tail_words fault }
 {
     match fault {
+        EverTailFault::Saving =>
+            b"no string says this zone for ever: it has daylight saving time for good",
         EverTailFault::Shape =>
             b"no string says this zone for ever: a year has other changes than one to daylight saving time and one back",
         EverTailFault::OffsetRange =>
             b"no string says this zone for ever: it has an offset past 24:59:59",
         EverTailFault::Name =>
-            b"no string says this zone for ever: it has an abbreviation that no string has",
+            b"no string says this zone for ever: an abbreviation isn't three or more letters, digits, + or -",
         EverTailFault::NoRule =>
             b"no string says this zone for ever: no days of its rules come again each year",
         EverTailFault::NoMemory => b"out of memory",
@@ -193,7 +202,8 @@ pub(crate) fn why_words(why: Why) -> &'static [u8]
     match why {
         Why::Schedule(fault) => schedule_words(fault),
         Why::OffsetRange => b"this zone has an offset of 26 hours or more",
-        Why::RulesEnd => b"the rules of this zone end, so it doesn't go on for ever",
+        Why::RulesEnd =>
+            b"the rules of this zone end, or aren't found to come again, so it isn't told for ever",
         Why::String(fault) => tail_words(fault),
         Why::Format => b"a % is left in an abbreviation of this zone",
         Why::File(WriteFault::Times) => changes_words(FileFault::Times),

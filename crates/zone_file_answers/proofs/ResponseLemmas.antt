@@ -37,17 +37,22 @@ pub has_file : (file text : List ℕ) (footer : Option FooterZone) → HasFooter
 has_file file text footer ends offsets says none =
     let has = offsets ends.zone ends.told in
     none (told_total_at ends.zone footer)
-    (record { value = ends.zone; footer = footer; says = ends.told; accepted = record { times = has.0; offsets = has.1; says = subst (λ l. SaysInFooter l footer) (sym ends.ends) says }; is = refl })
+    (record { value = ends.zone; footer = footer; says = ends.told; accepted = record { times = has.0; offsets = has.1; says = subst (λ l. SaysInFooter l footer) (sym ends.ends) says }; is = λ t has. refl; reads = λ x years. refl })
 
 -- as does a value that is not refused
 pub not_refused : (file : List ℕ) (value : ZoneValue) → Says file value → HasOffsets value → ¬ (IsNoFooter value.footer) → ¬ (IsNoFile file)
 not_refused file value says has readable none =
     readable (record {
       some = λ empty. none (told_total_at value None)
-          (record { value = value; footer = None; says = says; accepted = record { times = has.0; offsets = has.1; says = empty }; is = refl });
+          (record { value = value; footer = None; says = says; accepted = record { times = has.0; offsets = has.1; says = empty }; is = λ t has. refl; reads = λ x years. refl });
       none = λ read is. none (told_total_at value (Some (stands_for read)))
-          (record { value = value; footer = Some (stands_for read); says = says; accepted = record { times = has.0; offsets = has.1; says = record { value = read; is = is; stands = refl } }; is = refl });
+          (record { value = value; footer = Some (stands_for read); says = says; accepted = record { times = has.0; offsets = has.1; says = record { value = read; is = is; stands = refl } }; is = λ t has. refl; reads = λ x years. refl });
     })
+
+-- as does one that opens
+pub opens : (file : List ℕ) (value : ZoneValue) (footer : Option FooterZone) → Says file value → IsAcceptedFile value footer → ¬ (IsNoFile file)
+opens file value footer says accepted none =
+    none (told_total_at value footer) (record { value = value; footer = footer; says = says; accepted = accepted; is = λ t has. refl; reads = λ x years. refl })
 
 -- what is found over a file that is a zone
 pub found_over : (file requests : List ℕ) (total : ℤ → ℤ) → IsFile file total → (result : Result (List (List ℕ)) FileFault)

@@ -1,16 +1,20 @@
 //! The answers to the requests over a file.
-ghost use Rattle.std.specs.Prelude.{◌≡◌, ◌≤◌, ℕ, List, None, IfErr, IfOk, OnOk, MatchResult, length, map};
-ghost use Rattle.tz_tzif.specs.{InForce.{told_total_at}, Zones.{value_of, says_of}};
+ghost use Rattle.std.specs.Prelude.{◌≡◌, ◌≤◌, [], ℕ, List, None, IfErr, IfOk, OnOk, MatchResult, length, map};
+ghost use Rattle.tz_ever.specs.{Asked.{asked_recurrence, asked_set}, Recurrences.{zone_total}, ZoneShown.{recurrence_of, zone_set_of}};
+ghost use Rattle.tz_tzif.specs.Opened.{IsOpenedAs};
+ghost use Rattle.zone_tzif_core.specs.{Denotes.{Says}, ZoneFiles.{zone_seen}};
 ghost use Rattle.zone_source.specs.Lines.{lines_of};
 ghost use Rattle.zone_file_answers.specs.{Due.{answer_line}, Faults.{first_refused, request_refusal}, Told.{AnswersFile, FaultOfFile, TellsOf}};
 
 use crate::fault::FileFault;
 use crate::request::read_request;
 use std::alloc::Global;
-use tz_tzif::{TzifFault, TzifTz, read_footer};
+use tz_ever::{ZoneSet, ZoneTz};
+use tz_lookup::CompactFault;
+use tz_tzif::{FileSpans, TzifFault, opened_shows, read_footer, spans_of};
 use zone_answers::show;
 use zone_source::{LIMIT, LineList, Lines, text_of};
-use zone_tzif_core::{ReadFault, one_saying, read_file, said_bounds, said_footer};
+use zone_tzif_core::{ReadFault, ZoneFile, one_saying, read_file, said_bounds, said_footer};
 
 /// Answers each request over the zone of a file, in order. Lines end at an LF, a CR before it is dropped, and they are
 /// numbered from 1. The requests have at most 16,777,216 bytes.
@@ -29,12 +33,37 @@ pub fn answers(alloc: Global, file: &[u8], requests: &[u8]) -> Result<LineList, 
         Err(ReadFault::Refused) => return Err(FileFault::File),
         Err(ReadFault::NoMemory) => return Err(wanting(file)),
     };
-    match TzifTz::new(alloc, "", &zone) {
-        Ok(tz) => answer_all(alloc, &tz, requests),
+    match spans_of(alloc, "", &zone) {
+        Ok(spans) => answer_over(alloc, file, &zone, &spans, requests),
         Err(TzifFault::NoMemory) => Err(FileFault::NoMemory),
         Err(TzifFault::Times) => Err(FileFault::File),
         Err(TzifFault::Offset) => Err(FileFault::File),
         Err(TzifFault::Footer) => Err(FileFault::File),
+    }
+}
+
+/// Answers each request over the spans of the zone of a file.
+fn answer_over(
+    alloc: Global,
+    file: &[u8],
+    zone: &ZoneFile,
+    spans: &FileSpans,
+    requests: &[u8],
+) -> Result<LineList, FileFault>
+    requires short { length requests.now ≤ LIMIT }
+    requires says { Says file.now (zone_seen zone.now) }
+    requires opened { IsOpenedAs [] (zone_seen zone.now) spans.now }
+    ensures { MatchResult result (AnswersFile file.now requests.now) (FaultOfFile file.now requests.now) }
+{
+    let _ = file;
+    let _ = zone;
+    opened_shows();
+    match ZoneSet::build(alloc, &spans.set, spans.recurrence) {
+        Ok(set) => answer_all(alloc, &ZoneTz::new(&set), requests),
+        Err(CompactFault::NoMemory) => Err(FileFault::NoMemory),
+        Err(CompactFault::OffsetRange | CompactFault::Falling | CompactFault::Bound) => {
+            unreachable!()
+        }
     }
 }
 
@@ -54,11 +83,11 @@ fn wanting(file: &[u8]) -> FileFault
 }
 
 /// Answers each request at a zone.
-fn answer_all(alloc: Global, zone: &TzifTz<'_>, requests: &[u8]) -> Result<LineList, FileFault>
+fn answer_all(alloc: Global, zone: &ZoneTz<'_>, requests: &[u8]) -> Result<LineList, FileFault>
     requires { length requests.now ≤ LIMIT }
-    ensures valid { OnOk result (first_refused (told_total_at (value_of zone.now) (says_of zone.now)) 1 (lines_of requests.now) ≡ None) }
-    ensures lines { IfOk result (λ lines. lines ≡ map (answer_line (told_total_at (value_of zone.now) (says_of zone.now))) (lines_of requests.now)) }
-    ensures err { IfErr result (TellsOf (first_refused (told_total_at (value_of zone.now) (says_of zone.now)) 1 (lines_of requests.now))) }
+    ensures valid { OnOk result (first_refused (zone_total (asked_recurrence zone.now) (asked_set zone.now)) 1 (lines_of requests.now) ≡ None) }
+    ensures lines { IfOk result (λ lines. lines ≡ map (answer_line (zone_total (asked_recurrence zone.now) (asked_set zone.now))) (lines_of requests.now)) }
+    ensures err { IfErr result (TellsOf (first_refused (zone_total (asked_recurrence zone.now) (asked_set zone.now)) 1 (lines_of requests.now))) }
 {
     let mut answers = LineList::new(alloc);
     let mut text = Vec::new(alloc);
@@ -73,14 +102,14 @@ fn answer_all(alloc: Global, zone: &TzifTz<'_>, requests: &[u8]) -> Result<LineL
 
 /// Puts the line of the nth request into the text, in place of what is there.
 fn answer(
-    zone: &TzifTz<'_>,
+    zone: &ZoneTz<'_>,
     number: usize,
     line: &[u8],
     text: &mut Vec<u8>,
 ) -> Result<(), FileFault>
-    ensures accepted { OnOk result (request_refusal (told_total_at (value_of zone.now) (says_of zone.now)) number line.now ≡ None) }
-    ensures text { OnOk result (text.new.items ≡ answer_line (told_total_at (value_of zone.now) (says_of zone.now)) line.now) }
-    ensures err { IfErr result (TellsOf (request_refusal (told_total_at (value_of zone.now) (says_of zone.now)) number line.now)) }
+    ensures accepted { OnOk result (request_refusal (zone_total (asked_recurrence zone.now) (asked_set zone.now)) number line.now ≡ None) }
+    ensures text { OnOk result (text.new.items ≡ answer_line (zone_total (asked_recurrence zone.now) (asked_set zone.now)) line.now) }
+    ensures err { IfErr result (TellsOf (request_refusal (zone_total (asked_recurrence zone.now) (asked_set zone.now)) number line.now)) }
 {
     let Some(asked) = text_of(line) else {
         return Err(FileFault::NotText(number));

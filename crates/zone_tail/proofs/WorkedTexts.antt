@@ -1,7 +1,7 @@
 -- Worked rows: the weeks that name a day, what may be written, and the texts of candidates.
 use Rattle.std.{proofs.Common.{◌≡◌, ℕ, List, [], ◌∷◌, map, true, false, Some, None, refl, arith, ℤ, pos, neg_ℤ}, proofs.lemmas.Int.{ints}, specs.Prelude.{codes}, specs.Fmt.{digits}}
 use Rattle.zone_spans.specs.declared.span.FixedTimespan.{FixedTimespan}
-use Rattle.zone_tail.specs.{Carried.{IsFrom}, Changes.{weeks}, LastYear.{steady, yearly, other}, Tails.{beginning, can_be_written, is_name, names_of, rules_with}, Texts.{change_text, name_text, offset_text, rule_text, saving_text, text_of, time_text}}
+use Rattle.zone_tail.specs.{Carried.{IsFrom}, Changes.{weeks}, LastYear.{steady, yearly, other}, Tails.{beginning, can_be_written, is_name, is_posix_name, names_of, rules_with}, Texts.{change_text, name_text, offset_text, rule_text, saving_text, text_of, time_text}}
 use Rattle.zone_tail.specs.declared.{candidate.Candidate.TheVariants.{Fixed, Ruled}, rule.Change.{Change}, rule.YearlyRule.{YearlyRule}}
 
 -- of months of 31 and 28 days: a day with no such weekday after it is the fifth, and the fourth too up to the 28th
@@ -20,6 +20,14 @@ written = refl
 names : map is_name (codes "EST" ∷ [] ∷ codes "+03" ∷ codes "A<B" ∷ codes "A>B" ∷ (65 ∷ 10 ∷ []) ∷ (0 ∷ []) ∷ (195 ∷ 132 ∷ []) ∷ [])
     ≡ true ∷ false ∷ true ∷ false ∷ false ∷ false ∷ false ∷ true ∷ []
 names = refl
+
+-- of POSIX two letters, an underscore, letters past ASCII (in UTF-8) and a space are none
+no_posix_names : map is_posix_name (codes "CD" ∷ codes "A_B" ∷ (195 ∷ 132 ∷ 195 ∷ 132 ∷ []) ∷ codes "A B" ∷ []) ≡ false ∷ false ∷ false ∷ false ∷ []
+no_posix_names = refl
+
+-- letters of either size, digits, and signs are names of POSIX
+posix_names : map is_posix_name (codes "EST" ∷ codes "abz" ∷ codes "-03" ∷ codes "+0530" ∷ codes "A09" ∷ []) ≡ true ∷ true ∷ true ∷ true ∷ true ∷ []
+posix_names = refl
 
 -- 3 to 16 letters stand alone
 in_brackets : map name_text (codes "AB" ∷ codes "ABC" ∷ codes "ABCDEFGHIJKLMNOP" ∷ codes "ABCDEFGHIJKLMNOPQ" ∷ codes "+03" ∷ codes "A1C" ∷ [])

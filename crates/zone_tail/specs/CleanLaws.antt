@@ -2,7 +2,7 @@
 use Rattle.std.proofs.{Common.{◌≡◌, ℕ, zero, suc, ◌+◌, ◌/◌, ◌%◌, Bool, true, false, not, cond, ◌&&◌, ◌==◌, List, [], ◌∷◌, ◌++◌, nat_lt, refl, ◌∙◌, arith, ℤ, pos, int_lt, int_eq, ◌+ℤ◌, unsigned_abs}, lemmas.Bool.{and_from, and_parts}}
 use Rattle.std.proofs.lemmas.{Bool.Decides.{nat_tests}, List.Folds.{list_all-append}}
 use Rattle.std.specs.{Fmt.{decimal, digits, digits_onto, digit_glyph}, List.{list_all}, Prelude.{codes}}
-use Rattle.zone_tail.specs.{Tails.{is_name, is_name_byte}, Texts.{is_plain, minute_text, name_text, offset_text, saving_text, second_text, time_text, two_digits}}
+use Rattle.zone_tail.specs.{Tails.{is_name, is_name_byte, is_posix_byte, is_posix_name}, Texts.{is_plain, minute_text, name_text, offset_text, saving_text, second_text, time_text, two_digits}}
 
 abbrev pub IsClean : List ℕ → Type 0
 IsClean text = list_all (λ c. not (c == 10) && not (c == 0)) text ≡ true
@@ -67,14 +67,21 @@ unfolding name_text
 name_clean name clean =
     either (is_plain name) name (codes "<" ++ name ++ codes ">") clean (both (codes "<" ++ name) (codes ">") (both (codes "<") name refl clean) refl)
 
-bytes_clean : (name : List ℕ) → list_all is_name_byte name ≡ true → IsClean name
-bytes_clean [] all = refl
-bytes_clean (c ∷ name) all =
-    let parts = and_parts (is_name_byte c) (list_all is_name_byte name) all in
-    and_from _ _ (byte c parts.0) (bytes_clean name parts.1)
+bytes_clean : (is_byte : ℕ → Bool) → ((c : ℕ) → is_byte c ≡ true → (not (c == 10) && not (c == 0)) ≡ true) → (name : List ℕ)
+    → list_all is_byte name ≡ true → IsClean name
+bytes_clean is_byte clean [] all = refl
+bytes_clean is_byte clean (c ∷ name) all =
+    let parts = and_parts (is_byte c) (list_all is_byte name) all in
+    and_from _ _ (clean c parts.0) (bytes_clean is_byte clean name parts.1)
+
+pub named_clean : (name : List ℕ) → is_name name ≡ true → IsClean name
+named_clean name is = bytes_clean is_name_byte byte name (and_parts _ (list_all is_name_byte name) is).1
   where
     byte : (c : ℕ) → is_name_byte c ≡ true → (not (c == 10) && not (c == 0)) ≡ true
     byte c is = grind (arith, nat_tests, is)
 
-pub named_clean : (name : List ℕ) → is_name name ≡ true → IsClean name
-named_clean name is = bytes_clean name (and_parts _ (list_all is_name_byte name) is).1
+pub posix_clean : (name : List ℕ) → is_posix_name name ≡ true → IsClean name
+posix_clean name is = bytes_clean is_posix_byte byte name (and_parts _ (list_all is_posix_byte name) is).1
+  where
+    byte : (c : ℕ) → is_posix_byte c ≡ true → (not (c == 10) && not (c == 0)) ≡ true
+    byte c is = grind (arith, nat_tests, is)

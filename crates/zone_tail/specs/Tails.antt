@@ -1,8 +1,8 @@
 -- The POSIX TZ string that stands for the tail of a set, from which entry on, and why there is none.
-use Rattle.std.specs.{Prelude.{◌≡◌, ℕ, zero, suc, Bool, false, ◌&&◌, not, ◌==◌, nat_le, List, [], ◌∷◌, ◌++◌, length, map, Option, Some, None, if◌then◌else◌, ℤ, ◌+ℤ◌, ◌-ℤ◌, int_le, int_lt, unsigned_abs}, List.{list_all, list_any}}
+use Rattle.std.specs.{Prelude.{◌≡◌, ℕ, zero, suc, Bool, false, ◌&&◌, ◌||◌, not, ◌==◌, nat_le, List, [], ◌∷◌, ◌++◌, length, map, Option, Some, None, if◌then◌else◌, ℤ, pos, ◌+ℤ◌, ◌-ℤ◌, int_le, int_lt, unsigned_abs}, Char.{is_ascii_alphabetic, is_ascii_digit}, List.{list_all, list_any}}
 use Rattle.zone_spans.specs.Entries.{Entry, total}
 use Rattle.tz_lookup.specs.{Sets.{schedule_of, shifts_of}, Spans.{Shift, shift_at}, declared.set.FixedTimespanSet.{FixedTimespanSet}}
-use Rattle.tz_posix.specs.Marks.{less, greater}
+use Rattle.tz_posix.specs.Marks.{less, greater, minus_sign, plus_sign}
 use Rattle.zone_tail.specs.{Changes.{changes_at}, Choices.{candidate_at, IsChoice}, LastYear.{Form, steady, yearly, other, form, second_week, standard_of, year_end}, Texts.{text_of}, declared.candidate.Candidate.{Candidate}}
 use Rattle.zone_tail.specs.declared.{candidate.Candidate.TheVariants.{Fixed, Ruled}, rule.Change.{Change}, rule.YearlyRule.{YearlyRule}, outcome.TailFault.{TailFault}}
 use Rattle.zone_tail.specs.declared.outcome.TailFault.TheVariants as fault
@@ -47,6 +47,15 @@ ends_early other = false
 unfoldable pub is_ending_early : FixedTimespanSet → Bool
 is_ending_early set = ends_early (form set)
 
+-- Daylight saving time holds all the last year, of which a string of one offset says that it is standard time.
+abbrev pub saves_on : Form → Bool
+saves_on (steady span) = int_lt (pos 0) span.dst_offset
+saves_on (yearly start end) = false
+saves_on other = false
+
+unfoldable pub is_saving_on : FixedTimespanSet → Bool
+is_saving_on set = saves_on (form set)
+
 -- ---- the causes
 
 -- at most 24:59:59 in size
@@ -59,6 +68,13 @@ is_name_byte c = not (c == less) && not (c == greater) && not (c == 10) && not (
 
 abbrev pub is_name : List ℕ → Bool
 is_name name = nat_le 1 (length name) && list_all is_name_byte name
+
+-- POSIX has a place for names of three bytes and more, each an ASCII letter or digit, `+` or `-`
+abbrev pub is_posix_byte : ℕ → Bool
+is_posix_byte c = is_ascii_alphabetic c || is_ascii_digit c || c == plus_sign || c == minus_sign
+
+abbrev pub is_posix_name : List ℕ → Bool
+is_posix_name name = nat_le 3 (length name) && list_all is_posix_byte name
 
 abbrev pub named_or : Bool → Option TailFault
 named_or named = if named then None else Some fault.Name

@@ -2,7 +2,7 @@
 ghost use Rattle.std.specs.{Prelude.{◌≡◌, ◌<◌, ◌&&◌, Some, if◌then◌else◌, length}, List.{list_all}};
 ghost use Rattle.tz_lookup.specs.Sets.{IsAccepted, schedule_of};
 ghost use Rattle.zone_spans.specs.Entries.{total};
-ghost use Rattle.zone_tail.specs.{LastYear.{standard_of}, Shapes.{IsForm, entry_in}, Tails.{can_be_written, is_name, is_name_byte, named_or, tail_fault}, declared.outcome.TailFault.TheVariants.{OffsetRange}};
+ghost use Rattle.zone_tail.specs.{LastYear.{standard_of}, Shapes.{IsForm, entry_in}, Tails.{can_be_written, is_name, is_name_byte, is_posix_byte, is_posix_name, named_or, tail_fault}, declared.outcome.TailFault.TheVariants.{OffsetRange}};
 
 use crate::last_year::Form;
 use crate::outcome::TailFault;
@@ -11,6 +11,9 @@ use tz_lookup::SpanTable;
 
 /// 24:59:59, the greatest size of an offset that is written.
 const GREATEST: i64 = 89_999;
+
+/// The fewest bytes of a name that POSIX has a place for.
+const FEWEST: usize = 3;
 
 /// The first cause, or none.
 pub(crate) fn fault_in<S: SpanTable>(set: &S, form: &Form, offset: i64) -> Option<TailFault>
@@ -87,4 +90,20 @@ fn has_name_bytes(name: &str) -> bool
         && *byte != b'>'
         && *byte != b'\n'
         && *byte != 0)
+}
+
+/// Whether POSIX has a place for a name: three bytes or more, ASCII letters, digits, `+` and `-`. Of a string with another name, as
+/// `<CD>-2`, the GNU C library makes UTC.
+pub fn is_posix_name(name: &str) -> bool
+    ensures { result ≡ is_posix_name name.now }
+{
+    FEWEST <= name.len() && has_posix_bytes(name)
+}
+
+fn has_posix_bytes(name: &str) -> bool
+    ensures { result ≡ list_all is_posix_byte name.now }
+{
+    name.as_bytes().iter().all(|byte| {
+        byte.is_ascii_alphabetic() || byte.is_ascii_digit() || *byte == b'+' || *byte == b'-'
+    })
 }

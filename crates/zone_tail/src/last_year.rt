@@ -2,7 +2,7 @@
 ghost use Rattle.std.specs.Prelude.{◌≡◌, ◌↔◌, ◌<◌, IsTrue, length, int_lt, pos, ◌+ℤ◌, ◌-ℤ◌, ◌<ℤ◌, ◌≤ℤ◌};
 ghost use Rattle.zone_spans.specs.Entries.{total};
 ghost use Rattle.tz_lookup.specs.Sets.{IsAccepted, IsSpanTime, schedule_of, shifts_of};
-ghost use Rattle.zone_tail.specs.{LastYear.{are_start_and_end, is_end, is_start, standard_of, year_begin, year_end}, Shapes.{entry_in, IsForm, IsShape}, Tails.{is_ending_early, is_outlasting}, Totals.{IsCount}, declared.last_year.Shape.TheVariants.{Pair}};
+ghost use Rattle.zone_tail.specs.{LastYear.{are_start_and_end, is_end, is_start, standard_of, year_begin, year_end}, Shapes.{entry_in, IsForm, IsShape}, Tails.{is_ending_early, is_outlasting, is_saving_on}, Totals.{IsCount}, declared.last_year.Shape.TheVariants.{Pair}};
 
 use crate::spans::{entry_span, total_of};
 use tz_lookup::{FixedTimespan, LAST_YEAR_BEGIN, RULES_END, SpanTable};
@@ -91,6 +91,24 @@ pub fn is_ending_early<S: SpanTable>(set: &S) -> bool
         Form::Steady(_) => false,
         Form::Other => false,
     }
+}
+
+/// Whether daylight saving time holds all the last year: a string of one offset says that it is standard time.
+pub fn is_saving_on<S: SpanTable>(set: &S) -> bool
+    requires { IsAccepted (schedule_of (S.seen set.now)) }
+    ensures { result ≡ is_saving_on (S.seen set.now) }
+{
+    match form_of(set, standard_of(set)) {
+        Form::Steady(span) => is_saved(set.span(span)),
+        Form::Yearly { .. } => false,
+        Form::Other => false,
+    }
+}
+
+fn is_saved(span: &FixedTimespan) -> bool
+    ensures { result ≡ int_lt (pos 0) span.now.dst_offset }
+{
+    0 < span.dst_offset
 }
 
 /// What the entries of the last year are, by its standard offset.

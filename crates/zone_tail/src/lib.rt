@@ -21,7 +21,7 @@ mod text;
 mod walk;
 
 pub use call::tail;
-pub use last_year::{is_ending_early, is_outlasting};
+pub use last_year::{is_ending_early, is_outlasting, is_saving_on};
 pub use outcome::{Tail, TailFault};
 pub use program::{run_tail, start_tail};
 pub use zone_run::{

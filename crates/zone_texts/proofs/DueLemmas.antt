@@ -1,7 +1,7 @@
 -- Texts that are due between others, and one behind another.
-use Rattle.std.proofs.{Common.{◌≡◌, ℕ, suc, ◌+◌, ◌<◌, ◌≤◌, List, [], ◌∷◌, ◌++◌, length, map, drop, slice_index_or, append_assoc, append-nil, ap, subst, sym, ◌∙◌, refl, arith}, lemmas.List.{at_drop_more, at_drop_all}}
+use Rattle.std.proofs.{Common.{◌≡◌, cond, false, nat_lt, ℕ, suc, ◌+◌, ◌<◌, ◌≤◌, List, [], ◌∷◌, ◌++◌, length, map, drop, slice_index_or, append_assoc, append-nil, ap, subst, sym, ◌∙◌, refl, arith}, lemmas.List.{at_drop_more, at_drop_all}}
 use Rattle.std.specs.{Prelude.{Ok, Err}, Result.{result_unwrap_or}}
-use Rattle.zone_texts.specs.{DueLaws.{behind_err, pass, stepped}, Faults.{Due, behind, each_due, followed, IsFaultOf}, declared.fault.ReplyFault.{ReplyFault}, Escapes.{escaped_due, escaped_text}, Frames.{each_numbered, framed}}
+use Rattle.zone_texts.specs.{DueLaws.{behind_err, pass, stepped}, Faults.{Due, behind, each_due, followed, IsFaultOf}, declared.fault.ReplyFault.{ReplyFault}, declared.fault.ReplyFault.TheVariants.{OutOfYears, Untold}, Charts.{are_untold, chart_due, drawing_due}, SeenZones.{Named}, Escapes.{escaped_due, escaped_text}, Frames.{each_numbered, framed}}
 
 text_is : (a b : List ℕ) → (let x : Due = Ok a in let y : Due = Ok b in x ≡ y) → a ≡ b
 text_is a b e = ap (λ r. result_unwrap_or r []) e
@@ -22,6 +22,11 @@ framed_at old first mid new head tail d begun made added = framed_is old mid new
 pub framed_fault : (head tail : List ℕ) (d : Due) (f : ReplyFault) → IsFaultOf d f → IsFaultOf (framed head d tail) f
 framed_fault head tail d f e = pass d (framed head d tail) (λ g h. ap (λ x. framed head x tail) h) f e
 
+pub within : (head mid new tail : List ℕ) (d due : Due) → due ≡ d → Ok mid ≡ behind head d → new ≡ mid ++ tail → framed head due tail ≡ Ok new
+within head mid new tail (Ok p) due is made added =
+    ap (λ x. framed head x tail) is ∙ sym (ap Ok (added ∙ ap (λ m. m ++ tail) (text_is mid (head ++ p) made) ∙ append_assoc head p tail))
+within head mid new tail (Err f) due is made added = no_text mid f made
+
 pub escaped_is : (old start title new : List ℕ) (d : Due) → start ≡ [] → Ok title ≡ behind start d → new ≡ old ++ escaped_text title → Ok new ≡ behind old (escaped_due d)
 escaped_is old start title new (Ok p) none made added =
     ap Ok (added ∙ ap (λ t. old ++ escaped_text t) (text_is title (start ++ p) made ∙ ap (λ s. s ++ p) none))
@@ -29,6 +34,11 @@ escaped_is old start title new (Err f) none made added = no_text title f made
 
 pub escaped_fault : (d : Due) (f : ReplyFault) → IsFaultOf d f → IsFaultOf (escaped_due d) f
 escaped_fault d f e = pass d (escaped_due d) (λ g h. ap escaped_due h) f e
+
+pub chart_is : (zones : List Named) (year : ℕ) → nat_lt 9999 year ≡ false → are_untold year zones ≡ false
+    → chart_due zones year ≡ each_numbered (drawing_due year) 0 zones
+unfolding chart_due
+chart_is zones year small told = λ i. cond (small i) (Err OutOfYears) (cond (told i) (Err Untold) (each_numbered (drawing_due year) 0 zones))
 
 after : (n : ℕ) → suc n ≡ n + 1
 after n = omega arith

@@ -27,6 +27,12 @@ pub three : (old first second third a b c : List ℕ) → first ≡ old ++ a →
 three old first second third a b c d e f =
     f ∙ ap (λ l. l ++ c) (e ∙ ap (λ l. l ++ b) d ∙ append_assoc old a b) ∙ append_assoc old (a ++ b) c
 
+-- four
+pub four : (old first second third fourth a b c d : List ℕ) → first ≡ old ++ a → second ≡ first ++ b → third ≡ second ++ c → fourth ≡ third ++ d
+    → fourth ≡ old ++ (((a ++ b) ++ c) ++ d)
+four old first second third fourth a b c d e f g h =
+    h ∙ ap (λ l. l ++ d) (three old first second third a b c e f g) ∙ append_assoc old ((a ++ b) ++ c) d
+
 -- what one item more adds, as items are shown
 pub flat_more : {A B C : Type 0} → (f : B → List C) (show : A → B) (xs : List A) (n : ℕ) (d : A) → n < length xs
     → flat_map f (map show (take (n + 1) xs)) ≡ flat_map f (map show (take n xs)) ++ f (show (slice_index_or xs n d))

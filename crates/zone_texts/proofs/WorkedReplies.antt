@@ -3,8 +3,8 @@ use Rattle.std.proofs.Common.{◌≡◌, refl, ap, ◌∙◌, arith, Bool, true,
 use Rattle.std.specs.{Prelude.{codes}, Fmt.{digits}}
 use Rattle.basics.specs.{DateLaws.{year_of-day}, Dates.{year_of}, Days.{is_leap, days_in_year, days_in_month, days_after_zero, days_before_zero, year_start, days_through, days_into_year, day, IsCountedYear}, SignedLaws.{signed}}
 use Rattle.civil_base.specs.{Instants.{local_at, seconds_of}, Layout.{day_part}, Ranges.{is_in_years}}
-use Rattle.zone_words.specs.{Written.{epoch_text, seconds_text, fraction_text, moment_text, offset_shown, people_text}, declared.answer_form.AnswerForm.{AnswerForm}, declared.answer_form.AnswerForm.TheVariants.{People, Epoch, Json}}
-use Rattle.zone_texts.specs.{Berlin.{berlin_to as berlin, changes_in, in_force, instants_in, summer, total_in, winter}, Faults.{Due, behind, each_due, followed}, Instants.{instant_text, is_untold, shown_due}, Kinds.{kind_of, kind_text}, Lists.{change_due, kind_between, second_from, sides_text}, Objects.{clock_members, force_members, front_members, kind_member, object_text, quoted}, Readings.{convert_due, local_due}, Skips.{from_to_text, gap_due, skipping}, declared.{fault.ReplyFault.TheVariants.{OutOfYears, Untold}, kind.Kind.{Kind}, kind.Kind.TheVariants.{One, Gap, Fold}}}
+use Rattle.zone_words.specs.{Written.{epoch_text, seconds_text, fraction_text, moment_text, offset_shown, people_text}, declared.answer_form.AnswerForm.{AnswerForm}, declared.answer_form.AnswerForm.TheVariants.{People, Rfc3339, Epoch, Json}}
+use Rattle.zone_texts.specs.{Berlin.{berlin_to as berlin, changes_in, in_force, instants_in, summer, total_in, winter}, Faults.{Due, behind, each_due, followed}, Instants.{instant_text, is_untold, shown_due}, Kinds.{kind_of, kind_text}, Lists.{change_due, kind_between, second_from, sides_text}, Objects.{clock_members, force_members, front_members, gap_object_text, kind_member, object_text, quoted, skipped_members}, Readings.{convert_due, local_due}, Skips.{from_to_text, gap_due, skipping}, declared.{fault.ReplyFault.TheVariants.{OutOfYears, Skipped, Untold}, kind.Kind.{Kind}, kind.Kind.TheVariants.{One, Gap, Fold}}}
 
 counted : IsCountedYear (pos 2024)
 counted = record { first = omega (arith, signed); last = omega (arith, signed) }
@@ -77,10 +77,28 @@ untold = stop _ _ (ap (int_lt (pos 2023)) year)
     stop false d e = cc
 
 -- 2024-03-31 02:30 is skipped
-skipped : gap_due Epoch (berlin (pos 2099)) (codes "Europe/Berlin") (pos 1711852200000000000)
-    ≡ Ok (codes "none: skipped at @1711846800, from +01:00 to +02:00")
-unfolding winter summer in_force changes_in berlin seconds_of skipping from_to_text epoch_text fraction_text offset_shown digits
+skipped : gap_due People (berlin (pos 2099)) (codes "Europe/Berlin") (pos 1711852200000000000)
+    ≡ Ok (codes "none: skipped at " ++ people_text (pos 1711854000000000000) (pos 7200) (codes "CEST") ++ codes ", from +01:00 to +02:00")
+unfolding winter summer in_force changes_in berlin seconds_of skipping from_to_text offset_shown digits
 skipped = refl
+
+-- as an object, with nothing that is told of an instant of its own
+skipped_object : gap_due Json (berlin (pos 2099)) (codes "Europe/Berlin") (pos 1711852200000000000)
+    ≡ Ok ((codes "{\"zone\":\"Europe/Berlin\",\"skipped_at\":1711846800," ++ (codes "\"local\":\"" ++ moment_text 32 (pos 1711852200000000000)
+    ++ codes "\",\"before\":\"" ++ codes "+01:00" ++ codes "\",\"after\":\"" ++ codes "+02:00" ++ codes "\",")
+    ++ codes "\"abbreviation\":\"CEST\",\"saving\":3600" ++ codes ",\"kind\":\"gap\"") ++ codes "}")
+unfolding winter summer in_force changes_in berlin seconds_of skipping gap_object_text front_members skipped_members force_members kind_member quoted
+    seconds_text fraction_text offset_shown digits
+skipped_object = refl
+
+-- a form of instants alone has none for it
+no_instant : map (λ form. gap_due form (berlin (pos 2099)) (codes "Europe/Berlin") (pos 1711852200000000000)) (Rfc3339 ∷ Epoch ∷ []) ≡ Err Skipped ∷ Err Skipped ∷ []
+no_instant = refl
+
+-- no change
+unskipped : map (λ form. gap_due form (berlin (pos 2099)) (codes "Europe/Berlin") (pos 1711854000000000000)) (People ∷ Json ∷ []) ≡ Ok (codes "none") ∷ Ok (codes "null") ∷ []
+unfolding winter summer in_force changes_in berlin seconds_of skipping
+unskipped = refl
 
 -- 02:00 is the first local time that is, and 03:00 the first that isn't
 edges : map (skipping (berlin (pos 2099)))

@@ -1,12 +1,13 @@
 -- Texts that are due, one behind another.
 use Rattle.std.proofs.{Common.{◌≡◌, ℕ, ◌+◌, ◌<◌, ◌≤◌, List, [], ◌++◌, length, map, drop, slice_index_or, append_assoc, append-nil, ap, subst, sym, ◌∙◌, refl}, lemmas.List.{at_drop_more, at_drop_all}}
 use Rattle.std.specs.{Prelude.{Ok, Err}, Result.{result_unwrap_or}}
-use Rattle.zone_texts.specs.{Faults.{Due, behind, each_due, followed, IsFaultOf}, declared.fault.ReplyFault.{ReplyFault}, declared.fault.ReplyFault.TheVariants.{OutOfYears, Untold, NoMemory}}
+use Rattle.zone_texts.specs.{Faults.{Due, behind, each_due, followed, IsFaultOf}, declared.fault.ReplyFault.{ReplyFault}, declared.fault.ReplyFault.TheVariants.{OutOfYears, Untold, Skipped, NoMemory}}
 
 -- the fault of one is that of another
 pub pass : (d due : Due) → ((f : ReplyFault) → d ≡ Err f → due ≡ Err f) → (f : ReplyFault) → IsFaultOf d f → IsFaultOf due f
 pass d due h OutOfYears e = h OutOfYears e
 pass d due h Untold e = h Untold e
+pass d due h Skipped e = h Skipped e
 pass d due h NoMemory e = tt
 
 inside : (a b : List ℕ) → (let x : Due = Ok a in let y : Due = Ok b in x ≡ y) → a ≡ b

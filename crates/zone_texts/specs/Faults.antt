@@ -1,6 +1,6 @@
 -- Texts that are due, or why there is none.
 use Rattle.std.specs.Prelude.{◌≡◌, ℕ, List, [], ◌∷◌, ◌++◌, Result, Ok, Err}
-use Rattle.zone_texts.specs.declared.fault.ReplyFault.{ReplyFault, TheVariants.{OutOfYears, Untold, NoMemory}}
+use Rattle.zone_texts.specs.declared.fault.ReplyFault.{ReplyFault, TheVariants.{OutOfYears, Untold, Skipped, NoMemory}}
 
 -- a text that is due, or the fault
 abbrev pub Due : Type 0
@@ -29,4 +29,5 @@ each_due due (x ∷ xs) = followed (due x) (each_due due xs)
 abbrev pub IsFaultOf : Due → ReplyFault → Type 0
 IsFaultOf due OutOfYears = due ≡ Err OutOfYears
 IsFaultOf due Untold = due ≡ Err Untold
+IsFaultOf due Skipped = due ≡ Err Skipped
 IsFaultOf due NoMemory = Unit {0}

@@ -21,12 +21,9 @@ pub mod SeenNames
 pub mod Texts
 pub mod Unknown
 -- and of a picture.
-pub mod Axes
 pub mod Charts
 pub mod Escapes
 pub mod Frames
-pub mod Grids
-pub mod Lines
 pub mod SeenZones
 -- Laws: what a caller may use.
 pub mod DueLaws

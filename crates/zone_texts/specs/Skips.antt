@@ -1,8 +1,8 @@
 -- Local times that clocks skip.
-use Rattle.std.specs.Prelude.{Bool, ◌&&◌, ℕ, List, ◌++◌, codes, Option, Some, None, Ok, Err, find, int_le, int_lt, ℤ, pos, ◌+ℤ◌, ◌-ℤ◌, if◌then◌else◌}
+use Rattle.std.specs.Prelude.{Bool, true, false, ◌&&◌, ℕ, List, ◌++◌, codes, Option, Some, None, Ok, Err, find, int_le, int_lt, ℤ, pos, ◌+ℤ◌, ◌-ℤ◌, if◌then◌else◌}
 use Rattle.civil_base.specs.{Instants.{local_at, nanos_of, seconds_of}, Ranges.{is_in_years}}
 use Rattle.zone_words.specs.{Written.{offset_shown}, declared.answer_form.AnswerForm.{AnswerForm}, declared.answer_form.AnswerForm.TheVariants.{People, Rfc3339, Epoch, Json}}
-use Rattle.zone_texts.specs.{Faults.{Due}, Instants.{instant_text}, Objects.{change_object_text}, Views.{ZoneView}, declared.fault.ReplyFault.TheVariants.{OutOfYears}, declared.kind.Kind.TheVariants.{Gap}}
+use Rattle.zone_texts.specs.{Faults.{Due}, Instants.{instant_text}, Objects.{gap_object_text}, Views.{ZoneView}, declared.fault.ReplyFault.TheVariants.{OutOfYears, Skipped}, declared.kind.Kind.TheVariants.{Gap}}
 
 -- the offsets in force just before a second, and from it on
 abbrev pub before_of : ZoneView → ℤ → ℤ
@@ -27,29 +27,25 @@ has_dates second offset = is_in_years (nanos_of second) && is_in_years (local_at
 unfoldable pub from_to_text : ZoneView → ℤ → List ℕ
 from_to_text view second = codes ", from " ++ offset_shown (before_of view second) ++ codes " to " ++ offset_shown (after_of view second)
 
--- the change at a second skips the local time x
-abbrev pub skipped_text : AnswerForm → ZoneView → List ℕ → ℤ → ℤ → List ℕ
-skipped_text Json view name x second =
-    change_object_text name (nanos_of second) x (after_of view second) (view.force second) Gap (before_of view second)
-skipped_text People view name x second =
+-- the change at a second skips the local time x: an object, or words for people
+abbrev pub skipped_text : Bool → ZoneView → List ℕ → ℤ → ℤ → List ℕ
+skipped_text true view name x second =
+    gap_object_text name (nanos_of second) x (before_of view second) (after_of view second) (view.force second)
+skipped_text false view name x second =
     codes "none: skipped at " ++ instant_text People view name Gap (nanos_of second) (after_of view second) ++ from_to_text view second
-skipped_text Rfc3339 view name x second =
-    codes "none: skipped at " ++ instant_text Rfc3339 view name Gap (nanos_of second) (after_of view second) ++ from_to_text view second
-skipped_text Epoch view name x second =
-    codes "none: skipped at " ++ instant_text Epoch view name Gap (nanos_of second) (after_of view second) ++ from_to_text view second
 
 -- no change does
-abbrev pub none_text : AnswerForm → List ℕ
-none_text Json = codes "null"
-none_text People = codes "none"
-none_text Rfc3339 = codes "none"
-none_text Epoch = codes "none"
+abbrev pub none_text : Bool → List ℕ
+none_text is_object = if is_object then codes "null" else codes "none"
 
-abbrev pub skipped_due : AnswerForm → ZoneView → List ℕ → ℤ → Option ℤ → Due
-skipped_due form view name x None = Ok (none_text form)
-skipped_due form view name x (Some second) =
-    if has_dates second (after_of view second) then Ok (skipped_text form view name x second) else Err OutOfYears
+abbrev pub skipped_due : Bool → ZoneView → List ℕ → ℤ → Option ℤ → Due
+skipped_due is_object view name x None = Ok (none_text is_object)
+skipped_due is_object view name x (Some second) =
+    if has_dates second (after_of view second) then Ok (skipped_text is_object view name x second) else Err OutOfYears
 
--- what skips the local time x
+-- what skips the local time x; the other forms have instants alone, and no text for it
 abbrev pub gap_due : AnswerForm → ZoneView → List ℕ → ℤ → Due
-gap_due form view name x = skipped_due form view name x (skipping view x)
+gap_due People view name x = skipped_due false view name x (skipping view x)
+gap_due Rfc3339 view name x = Err Skipped
+gap_due Epoch view name x = Err Skipped
+gap_due Json view name x = skipped_due true view name x (skipping view x)

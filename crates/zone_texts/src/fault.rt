@@ -11,6 +11,9 @@ pub enum ReplyFault {
     /// A local time lies past the last year that the zone is told for: its rules don't go on for ever.
     #[error("the zone's rules end before that year")]
     Untold,
+    /// Clocks are set ahead over the local time, and the form has a place for instants alone.
+    #[error("clocks skip this local time")]
+    Skipped,
     /// Memory ran out.
     #[error("out of memory")]
     NoMemory,

@@ -2,25 +2,23 @@
 //! source that have a word in them, or that someone may have meant; a picture of the offsets of zones over a year.
 #![tactic(auto)]
 
-mod axes;
 mod bytes;
 mod changes;
 mod chart;
-mod chart_line;
 mod days;
+mod drawing;
 mod edit;
 mod entry;
 mod escape;
 mod fault;
 mod fixed;
 mod force;
-mod grid;
+mod frame;
 mod instants;
 mod kind;
 pub mod laws;
 mod line;
 mod lines;
-mod mark;
 mod near;
 mod object;
 mod readings;
@@ -32,7 +30,7 @@ mod zone;
 
 pub use bytes::add_bytes;
 pub use changes::{add_change_line, add_list, kind_between};
-pub use chart::add_chart;
+pub use chart::chart_of;
 pub use entry::NameEntry;
 pub use fault::ReplyFault;
 pub use fixed::FixedZone;

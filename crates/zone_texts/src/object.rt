@@ -1,7 +1,7 @@
 //! Objects of JSON.
-ghost use Rattle.std.specs.Prelude.{◌≡◌, ◌++◌, ◌<◌, length, take, is_ok, OnErr, OnOk, if◌then◌else◌};
+ghost use Rattle.std.specs.Prelude.{◌≡◌, ◌++◌, false, length, take, true, is_ok, OnErr, OnOk, if◌then◌else◌};
 ghost use Rattle.civil_base.specs.DateTimes.{instant, offset_of};
-ghost use Rattle.zone_texts.specs.{Forces.{force_shown}, Objects.{change_object_text, clock_members, escaped, force_members, front_members, hex_digit, kind_member, members, object_text, quoted}};
+ghost use Rattle.zone_texts.specs.{Forces.{force_shown}, declared.kind.Kind.TheVariants.{Gap}, Objects.{change_object_text, clock_members, escaped, force_members, front_members, gap_object_text, instant_key, kind_member, members, object_text, quoted, skipped_members}};
 
 use crate::bytes::add_bytes;
 use crate::force::Force;
@@ -9,7 +9,7 @@ use crate::kind::Kind;
 use civil_base::{OffsetDateTime, PlainDateTime, UtcOffset};
 use itoa::Buffer;
 use std::alloc::AllocError;
-use zone_words::{add_local, add_offset, add_seconds};
+use zone_words::{add_local, add_offset, add_seconds, hex_digit};
 
 /// What an object tells of an instant: its zone's name, the local time, what is in force, and the kind of the local time.
 #[derive(Clone, Copy)]
@@ -19,17 +19,6 @@ pub(crate) struct Told<'a> {
     pub(crate) local: &'a PlainDateTime,
     pub(crate) force: &'a Force,
     pub(crate) kind: Kind,
-}
-
-fn hex_digit(number: u8) -> u8
-    requires { number < 16 }
-    ensures { result ≡ hex_digit number }
-{
-    if number < 10 {
-        b'0' + number
-    } else {
-        b'W' + number
-    }
 }
 
 /// Adds a byte of a string.
@@ -77,13 +66,29 @@ pub fn add_quoted(into: &mut Vec<u8>, text: &str) -> Result<(), AllocError>
     added
 }
 
+/// The key of an instant, or of that at which clocks skip a local time.
+fn instant_key(is_skip: bool) -> &'static [u8]
+    ensures { result.now ≡ instant_key is_skip }
+{
+    if is_skip {
+        b",\"skipped_at\":"
+    } else {
+        b",\"instant\":"
+    }
+}
+
 #[tactic(auto, using(std::proofs::Common::append_assoc), unfolding(crate::specs::Objects::front_members))]
-fn add_front(into: &mut Vec<u8>, name: &str, at: &OffsetDateTime) -> Result<(), AllocError>
-    ensures { OnOk result (into.new.items ≡ into.old.items ++ front_members name.now (instant at.now)) }
+fn add_front(
+    into: &mut Vec<u8>,
+    is_skip: bool,
+    name: &str,
+    at: &OffsetDateTime,
+) -> Result<(), AllocError>
+    ensures { OnOk result (into.new.items ≡ into.old.items ++ front_members is_skip name.now (instant at.now)) }
 {
     add_bytes(into, b"{\"zone\":")?;
     add_quoted(into, name)?;
-    add_bytes(into, b",\"instant\":")?;
+    add_bytes(into, instant_key(is_skip))?;
     add_seconds(into, at)?;
     add_bytes(into, b",")
 }
@@ -124,7 +129,7 @@ fn add_members(into: &mut Vec<u8>, told: &Told<'_>) -> Result<(), AllocError>
     ensures { OnOk result (into.new.items ≡ into.old.items
         ++ members told.now.name.now (instant told.now.at.now) told.now.local.now (offset_of told.now.at.now) (force_shown told.now.force.now) told.now.kind) }
 {
-    add_front(into, told.name, told.at)?;
+    add_front(into, false, told.name, told.at)?;
     add_clock(into, told.local, told.at.offset())?;
     add_force(into, told.force)?;
     add_kind(into, told.kind)
@@ -154,4 +159,39 @@ pub(crate) fn add_change_object(
     add_bytes(into, b",\"before\":\"")?;
     add_offset(into, before)?;
     add_bytes(into, b"\"}")
+}
+
+#[tactic(auto, using(std::proofs::Common::append_assoc), unfolding(crate::specs::Objects::skipped_members))]
+fn add_skipped(
+    into: &mut Vec<u8>,
+    local: &PlainDateTime,
+    before: UtcOffset,
+    after: UtcOffset,
+) -> Result<(), AllocError>
+    ensures { OnOk result (into.new.items ≡ into.old.items ++ skipped_members local.now before after) }
+{
+    add_bytes(into, b"\"local\":\"")?;
+    add_local(into, local)?;
+    add_bytes(into, b"\",\"before\":\"")?;
+    add_offset(into, before)?;
+    add_bytes(into, b"\",\"after\":\"")?;
+    add_offset(into, after)?;
+    add_bytes(into, b"\",")
+}
+
+/// Adds the object of a local time that clocks skip, by a change from that offset.
+#[tactic(auto, using(std::proofs::Common::append_assoc), unfolding(crate::specs::Objects::gap_object_text))]
+pub(crate) fn add_gap_object(
+    into: &mut Vec<u8>,
+    told: &Told<'_>,
+    before: UtcOffset,
+) -> Result<(), AllocError>
+    ensures { OnOk result (into.new.items ≡ into.old.items
+        ++ gap_object_text told.now.name.now (instant told.now.at.now) told.now.local.now before (offset_of told.now.at.now) (force_shown told.now.force.now)) }
+{
+    add_front(into, true, told.name, told.at)?;
+    add_skipped(into, told.local, before, told.at.offset())?;
+    add_force(into, told.force)?;
+    add_kind(into, Kind::Gap)?;
+    add_bytes(into, b"}")
 }

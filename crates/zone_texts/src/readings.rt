@@ -155,8 +155,8 @@ fn add_read<F: ReplyZone, T: ReplyZone>(
 /// # Errors
 ///
 /// `Untold` exactly where the local time lies past the first zone's last year; then `OutOfYears` and `Untold` for the first instant that
-/// the other doesn't show, as of [`add_at`], or `OutOfYears` where a date of the change lies outside the years; `NoMemory`. The text is as
-/// before then.
+/// the other doesn't show, as of [`add_at`]; where the clocks of the first skip the local time, `Skipped` in the forms that have instants
+/// alone, `Rfc3339` and `Epoch`, or `OutOfYears` where a date of the change lies outside the years; `NoMemory`. The text is as before then.
 pub fn add_converted<F: ReplyZone, T: ReplyZone>(
     into: &mut Vec<u8>,
     alloc: Global,

@@ -1,13 +1,14 @@
 //! The change by which clocks skip a local time.
 ghost use Rattle.std.specs.Prelude.{◌≡◌, ◌++◌, codes, IfErr, IfOk, IfSome, Ok, OnOk, find, is_some};
 ghost use Rattle.civil_base.specs.{DateTimes.{instant, offset_of}, Instants.{local_at, nanos_of}};
-ghost use Rattle.zone_texts.specs.{Faults.{behind, IsFaultOf}, Instants.{instant_text}, Objects.{change_object_text}, declared.kind.Kind.TheVariants.{Gap}, Skips.{after_of, before_of, from_to_text, gap_due, has_dates, none_text, skipped_text, skipping, skips}};
+ghost use Rattle.zone_texts.specs.{Faults.{behind, IsFaultOf}, Instants.{instant_text}, Objects.{gap_object_text}, declared.kind.Kind.TheVariants.{Gap}, Skips.{after_of, before_of, from_to_text, gap_due, has_dates, none_text, skipped_due, skipped_text, skipping, skips}};
+ghost use Rattle.zone_words.specs.declared.answer_form.AnswerForm.TheVariants.{People};
 
 use crate::bytes::add_bytes;
 use crate::fault::ReplyFault;
 use crate::kind::Kind;
 use crate::line::{Style, add_instant};
-use crate::object::{Told, add_change_object};
+use crate::object::{Told, add_gap_object};
 use crate::view::ReplyZone;
 use civil_base::{OffsetDateTime, PlainDateTime, UtcOffset};
 use std::alloc::{AllocError, Global};
@@ -102,25 +103,25 @@ fn add_from_to<Z: ReplyZone>(into: &mut Vec<u8>, zone: &Z, second: i64) -> Resul
     add_offset(into, after_of(zone, second))
 }
 
-/// Adds a change that skips a local time, at its date.
+/// Adds a change that skips a local time, at its date: as an object, or in words for people.
 fn add_skipped<Z: ReplyZone>(
     into: &mut Vec<u8>,
     alloc: Global,
     zone: &Z,
-    style: &Style<'_>,
+    is_object: bool,
+    name: &str,
     local: &PlainDateTime,
     second: i64,
     date: &OffsetDateTime,
 ) -> Result<(), AllocError>
     requires instant { instant date.now ≡ nanos_of second }
     requires offset { offset_of date.now ≡ after_of (Z.view zone.now) second }
-    ensures { OnOk result (into.new.items ≡ into.old.items ++ skipped_text style.now.form (Z.view zone.now) style.now.name.now local.now second) }
+    ensures { OnOk result (into.new.items ≡ into.old.items ++ skipped_text is_object (Z.view zone.now) name.now local.now second) }
 {
-    match style.form {
-        AnswerForm::Json => add_skip_object(into, alloc, zone, style.name, local, second, date),
-        AnswerForm::People => add_skip_line(into, alloc, zone, style, second, date),
-        AnswerForm::Rfc3339 => add_skip_line(into, alloc, zone, style, second, date),
-        AnswerForm::Epoch => add_skip_line(into, alloc, zone, style, second, date),
+    if is_object {
+        add_skip_object(into, alloc, zone, name, local, second, date)
+    } else {
+        add_skip_line(into, alloc, zone, name, second, date)
     }
 }
 
@@ -130,16 +131,20 @@ fn add_skip_line<Z: ReplyZone>(
     into: &mut Vec<u8>,
     alloc: Global,
     zone: &Z,
-    style: &Style<'_>,
+    name: &str,
     second: i64,
     date: &OffsetDateTime,
 ) -> Result<(), AllocError>
     ensures { OnOk result (into.new.items ≡ into.old.items
-        ++ (codes "none: skipped at " ++ instant_text style.now.form (Z.view zone.now) style.now.name.now Gap (instant date.now) (offset_of date.now)
+        ++ (codes "none: skipped at " ++ instant_text People (Z.view zone.now) name.now Gap (instant date.now) (offset_of date.now)
         ++ from_to_text (Z.view zone.now) second)) }
 {
+    let style = Style {
+        name,
+        form: AnswerForm::People,
+    };
     add_bytes(into, b"none: skipped at ")?;
-    add_instant(into, alloc, zone, style, Kind::Gap, date)?;
+    add_instant(into, alloc, zone, &style, Kind::Gap, date)?;
     add_from_to(into, zone, second)
 }
 
@@ -154,7 +159,7 @@ fn add_skip_object<Z: ReplyZone>(
     date: &OffsetDateTime,
 ) -> Result<(), AllocError>
     ensures { OnOk result (into.new.items ≡ into.old.items
-        ++ change_object_text name.now (instant date.now) local.now (offset_of date.now) ((Z.view zone.now).force second) Gap (before_of (Z.view zone.now) second)) }
+        ++ gap_object_text name.now (instant date.now) local.now (before_of (Z.view zone.now) second) (offset_of date.now) ((Z.view zone.now).force second)) }
 {
     let force = zone.force_at(alloc, second)?;
     let told = Told {
@@ -164,22 +169,40 @@ fn add_skip_object<Z: ReplyZone>(
         force: &force,
         kind: Kind::Gap,
     };
-    add_change_object(into, &told, before_of(zone, second))
+    add_gap_object(into, &told, before_of(zone, second))
 }
 
 /// That no change skips a local time.
-fn none_text(form: AnswerForm) -> &'static [u8]
-    ensures { result.now ≡ none_text form }
+fn none_text(is_object: bool) -> &'static [u8]
+    ensures { result.now ≡ none_text is_object }
 {
-    match form {
-        AnswerForm::Json => b"null",
-        AnswerForm::People => b"none",
-        AnswerForm::Rfc3339 => b"none",
-        AnswerForm::Epoch => b"none",
-    }
+    if is_object { b"null" } else { b"none" }
 }
 
-/// Adds what skips a local time.
+/// Adds what skips a local time: as an object, or in words for people.
+fn add_skip<Z: ReplyZone>(
+    into: &mut Vec<u8>,
+    alloc: Global,
+    zone: &Z,
+    is_object: bool,
+    name: &str,
+    local: &PlainDateTime,
+) -> Result<(), ReplyFault>
+    ensures ok { OnOk result (Ok into.new.items ≡ behind into.old.items (skipped_due is_object (Z.view zone.now) name.now local.now (skipping (Z.view zone.now) local.now))) }
+    ensures err { IfErr result (IsFaultOf (skipped_due is_object (Z.view zone.now) name.now local.now (skipping (Z.view zone.now) local.now))) }
+{
+    let Some(second) = skipping(alloc, zone, local)? else {
+        add_bytes(into, none_text(is_object))?;
+        return Ok(());
+    };
+    let Some(date) = date_at(second, after_of(zone, second)) else {
+        return Err(ReplyFault::OutOfYears);
+    };
+    add_skipped(into, alloc, zone, is_object, name, local, second, &date)?;
+    Ok(())
+}
+
+/// Adds what skips a local time, in a form that has a text for it.
 pub(crate) fn add_gap<Z: ReplyZone>(
     into: &mut Vec<u8>,
     alloc: Global,
@@ -190,13 +213,10 @@ pub(crate) fn add_gap<Z: ReplyZone>(
     ensures ok { OnOk result (Ok into.new.items ≡ behind into.old.items (gap_due style.now.form (Z.view zone.now) style.now.name.now local.now)) }
     ensures err { IfErr result (IsFaultOf (gap_due style.now.form (Z.view zone.now) style.now.name.now local.now)) }
 {
-    let Some(second) = skipping(alloc, zone, local)? else {
-        add_bytes(into, none_text(style.form))?;
-        return Ok(());
-    };
-    let Some(date) = date_at(second, after_of(zone, second)) else {
-        return Err(ReplyFault::OutOfYears);
-    };
-    add_skipped(into, alloc, zone, style, local, second, &date)?;
-    Ok(())
+    match style.form {
+        AnswerForm::People => add_skip(into, alloc, zone, false, style.name, local),
+        AnswerForm::Rfc3339 => Err(ReplyFault::Skipped),
+        AnswerForm::Epoch => Err(ReplyFault::Skipped),
+        AnswerForm::Json => add_skip(into, alloc, zone, true, style.name, local),
+    }
 }

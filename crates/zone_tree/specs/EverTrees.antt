@@ -28,6 +28,7 @@ zone_why LaterOffset = Some why.OffsetRange
 -- why no footer carries its zone on
 abbrev pub footer_why : EverTailFault → Option Why
 footer_why tail.NoMemory = None
+footer_why tail.Saving = Some (why.String tail.Saving)
 footer_why tail.Shape = Some (why.String tail.Shape)
 footer_why tail.OffsetRange = Some (why.String tail.OffsetRange)
 footer_why tail.Name = Some (why.String tail.Name)

@@ -12,6 +12,7 @@ group_of (String fault) = codes "string "
 group_of _ = []
 
 abbrev pub string_word : EverTailFault → List ℕ
+string_word tail.Saving = codes "saving"
 string_word tail.Shape = codes "shape"
 string_word tail.OffsetRange = codes "range"
 string_word tail.Name = codes "name"

@@ -174,7 +174,8 @@ fn no_footer(cause: EverTailFault) -> NameFault
 {
     match cause {
         EverTailFault::NoMemory => NameFault::NoMemory,
-        EverTailFault::Shape
+        EverTailFault::Saving
+        | EverTailFault::Shape
         | EverTailFault::OffsetRange
         | EverTailFault::Name
         | EverTailFault::NoRule => NameFault::Refused(Why::String(cause)),

@@ -18,7 +18,7 @@ pub enum Why {
     OffsetRange,
     /// Its zone doesn't go on after 2099.
     RulesEnd,
-    /// No footer carries its zone on for ever: `Shape`, `OffsetRange`, `Name` or `NoRule`.
+    /// No footer carries its zone on for ever: `Shape`, `OffsetRange`, `Name` or `NoRule`; `Saving` never comes.
     String(EverTailFault),
     /// A `%` is left in an abbreviation of its zone, which no reader of its file would know.
     Format,
@@ -120,6 +120,7 @@ impl Why {
             Why::Schedule(fault) => fault.name(),
             Why::OffsetRange => "offset range",
             Why::RulesEnd => "rules end",
+            Why::String(EverTailFault::Saving) => "saving",
             Why::String(EverTailFault::Shape) => "shape",
             Why::String(EverTailFault::OffsetRange) => "range",
             Why::String(EverTailFault::Name) => "name",

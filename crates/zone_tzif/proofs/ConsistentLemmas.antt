@@ -4,7 +4,7 @@ use Rattle.civil_base.specs.Instants.{seconds_of}
 use Rattle.zone_spans.specs.Schedules.{total_at as set_total_at}
 use Rattle.tz_lookup.specs.{Sets.{schedule_of}, declared.set.FixedTimespanSet.{FixedTimespanSet}}
 use Rattle.tz_tzif.specs.{FooterLaws.{no_text}, FooterForce.{FooterZone, is_of_one_year}, Standing.{StandsFor}, Faults.{SaysInFooter}, InForce.{are_over, told_total_at}}
-use Rattle.zone_tail.specs.{Carried.{CarriesOn}, Found.{found_from, found_text}, Tails.{IsTail, end_of_last_year, is_ending_early, is_outlasting, tail_fault}, declared.outcome.TailFault.{TailFault}}
+use Rattle.zone_tail.specs.{Carried.{CarriesOn}, Found.{found_from, found_text}, Tails.{IsTail, end_of_last_year, is_ending_early, is_outlasting, is_saving_on, tail_fault}, declared.outcome.TailFault.{TailFault}}
 use Rattle.zone_tzif_core.specs.{Totals.{file_total_at}, Zones.{ZoneValue}}
 use Rattle.zone_tzif.specs.{Files.{consistent_footer, consistent_zone, footer_of, is_contradicted, IsCarriedOn}, Values.{value_by, value_of}, Footers.{IsSaid}}
 
@@ -21,9 +21,10 @@ module _ (alone : (zone : ZoneValue) (t : ℤ) → told_total_at zone None t ≡
   by_changes set text None t e says = alone (value_of set text) t ∙ kept set text t
   by_changes set text (Some f) t e says = absurd (no_text says e)
 
-  not_early : (a b : Bool) → (a || b) ≡ false → b ≡ true → ⊥
-  not_early true b e h = cc
-  not_early false b e h = let no = sym h ∙ e in cc
+  not_early : (a b c : Bool) → (a || b || c) ≡ false → b ≡ true → ⊥
+  not_early true b c e h = cc
+  not_early false true c e h = cc
+  not_early false false c e h = cc
 
   -- by the string of the set
   by_string : (set : FixedTimespanSet) (footer : Option FooterZone) (t : ℤ) → IsCarriedOn set → is_contradicted set ≡ false
@@ -37,7 +38,7 @@ module _ (alone : (zone : ZoneValue) (t : ℤ) → told_total_at zone None t ≡
           → told_total_at (value_of set (footer_of set)) (Some f) t ≡ set_total_at (schedule_of set) t
       by_fault None none =
           carried_on set (found_from set) (footer_of set) f t (carried.tail none) (carried.carries none) says (said.within last none)
-          (λ early. absurd (not_early (is_outlasting set) (is_ending_early set) last early))
+          (λ early. absurd (not_early (is_outlasting set) (is_ending_early set) (is_saving_on set) last early))
       by_fault (Some fault) some = absurd (no_text says (ap (λ o. cond (is_none o) (found_text set) []) some))
 
   pub consistent : (set : FixedTimespanSet) (footer : Option FooterZone) (t : ℤ) → IsCarriedOn set → SaysInFooter (consistent_zone set).footer footer

@@ -4,9 +4,9 @@ use Rattle.std.specs.Prelude.{◌&&◌}
 use Rattle.basics.specs.ComparisonLaws.{le_fail, le_pass}
 use Rattle.zone_spans.specs.{Entries.{Entry, total}, declared.span.FixedTimespan.{FixedTimespan}}
 use Rattle.tz_lookup.specs.{Sets.{shift_of, shifts_of, span_in, total_of_span}, Spans.{Shift, shift_at}, declared.set.FixedTimespanSet.{FixedTimespanSet}}
-use Rattle.zone_tail.specs.{LastYear.{Form, steady, yearly, other}, Shapes.{entry_in}, Tails.{can_be_written, is_name}}
-use Rattle.zone_tzif.specs.{Agreement.{cycle_begin}, Tails.{IsFaultForEver}, Tried.{ever_fault, ever_form, first_from, form_fault, form_of_two, named_or, next_year, written_or}, declared.outcome.EverTailFault.{EverTailFault}}
-use Rattle.zone_tzif.specs.declared.outcome.EverTailFault.TheVariants.{Shape, OffsetRange, Name, NoRule, NoMemory}
+use Rattle.zone_tail.specs.{LastYear.{Form, steady, yearly, other}, Shapes.{entry_in}, Tails.{can_be_written, is_posix_name}}
+use Rattle.zone_tzif.specs.{Agreement.{cycle_begin}, Tails.{IsFaultForEver, IsNotSaved}, Tried.{ever_fault, ever_form, first_from, form_fault, form_of_two, named_or, next_year, written_or}, declared.outcome.EverTailFault.{EverTailFault}}
+use Rattle.zone_tzif.specs.declared.outcome.EverTailFault.TheVariants.{Saving, Shape, OffsetRange, Name, NoRule, NoMemory}
 
 some_is : {X : Type 0} (a b : X) → Some a ≡ Some b → a ≡ b
 some_is a b e = cc
@@ -52,13 +52,13 @@ written_from false named h = absurd cc
 pub steady_written : (set : FixedTimespanSet) (span : FixedTimespan) → ever_form set ≡ steady span → ever_fault set ≡ None
     → can_be_written (total span) ≡ true
 unfolding form_fault
-steady_written set span is none = written_from (can_be_written (total span)) (is_name span.name) (ap form_fault (sym is) ∙ none)
+steady_written set span is none = written_from (can_be_written (total span)) (is_posix_name span.name) (ap form_fault (sym is) ∙ none)
 
 pub yearly_written : (set : FixedTimespanSet) (start end : Entry) → ever_form set ≡ yearly start end → ever_fault set ≡ None
     → can_be_written (total end.1) && can_be_written (total start.1) ≡ true
 unfolding form_fault
 yearly_written set start end is none =
-    written_from (can_be_written (total end.1) && can_be_written (total start.1)) (is_name end.1.name && is_name start.1.name)
+    written_from (can_be_written (total end.1) && can_be_written (total start.1)) (is_posix_name end.1.name && is_posix_name start.1.name)
     (ap form_fault (sym is) ∙ none)
 
 pub other_fails : (set : FixedTimespanSet) → ever_form set ≡ other → ever_fault set ≡ None → ⊥
@@ -70,6 +70,7 @@ abbrev IsCause : EverTailFault → Type 0
 IsCause Shape = Unit {0}
 IsCause OffsetRange = Unit {0}
 IsCause Name = Unit {0}
+IsCause Saving = ⊥
 IsCause NoRule = ⊥
 IsCause NoMemory = ⊥
 
@@ -83,17 +84,18 @@ cause_of_two false named f h = subst IsCause (some_is OffsetRange f h) tt
 
 cause_of : (form : Form) (f : EverTailFault) → form_fault form ≡ Some f → IsCause f
 unfolding form_fault
-cause_of (steady span) f h = cause_of_two (can_be_written (total span)) (is_name span.name) f h
+cause_of (steady span) f h = cause_of_two (can_be_written (total span)) (is_posix_name span.name) f h
 cause_of (yearly start end) f h =
-    cause_of_two (can_be_written (total end.1) && can_be_written (total start.1)) (is_name end.1.name && is_name start.1.name) f h
+    cause_of_two (can_be_written (total end.1) && can_be_written (total start.1)) (is_posix_name end.1.name && is_posix_name start.1.name) f h
 cause_of other f h = subst IsCause (some_is Shape f h) tt
 
-by_cause : (set : FixedTimespanSet) (f : EverTailFault) → ever_fault set ≡ Some f → IsCause f → IsFaultForEver set f
-by_cause set Shape h cause = h
-by_cause set OffsetRange h cause = h
-by_cause set Name h cause = h
-by_cause set NoRule h cause = absurd cause
-by_cause set NoMemory h cause = absurd cause
+by_cause : (set : FixedTimespanSet) (f : EverTailFault) → IsNotSaved set → ever_fault set ≡ Some f → IsCause f → IsFaultForEver set f
+by_cause set Saving unsaved h cause = absurd cause
+by_cause set Shape unsaved h cause = (unsaved, h)
+by_cause set OffsetRange unsaved h cause = (unsaved, h)
+by_cause set Name unsaved h cause = (unsaved, h)
+by_cause set NoRule unsaved h cause = absurd cause
+by_cause set NoMemory unsaved h cause = absurd cause
 
-pub fault_is : (set : FixedTimespanSet) (f : EverTailFault) → ever_fault set ≡ Some f → IsFaultForEver set f
-fault_is set f h = by_cause set f h (cause_of (ever_form set) f h)
+pub fault_is : (set : FixedTimespanSet) (f : EverTailFault) → IsNotSaved set → ever_fault set ≡ Some f → IsFaultForEver set f
+fault_is set f unsaved h = by_cause set f unsaved h (cause_of (ever_form set) f h)

@@ -6,7 +6,7 @@ use Rattle.zone_spans.specs.Entries.{Entry, total}
 use Rattle.tz_tzif.specs.{Faults.{SaysInFooter}, FooterForce.{FooterZone, fixed, held_at}, FooterLaws.{no_text}, InForce.{kind_at, kind_in as kind_of_file}, Spells.{SpellsFooter}, Values.{FooterValue}}
 use Rattle.tz_lookup.specs.{Sets.{shifts_of, span_in, total_of_span}, declared.set.FixedTimespanSet.{FixedTimespanSet}}
 use Rattle.zone_tail.specs.Carried.{IsFrom}
-use Rattle.zone_tzif.specs.{Agreement.{AgreesForEver, cycle_begin, cycle_end, ever_kind}, EverFiles.{entries_until, ever_zone, last_of, IsFooterFor, IsInReach, IsSavedFrom}, Tails.{beginning_of}, Tells.{Tells}, Values.{change_by, kind_by, value_by}, Walked.{Agrees, come, kind_from}}
+use Rattle.zone_tzif.specs.{Agreement.{AgreesForEver, cycle_begin, cycle_end, ever_kind}, EverFiles.{entries_until, ever_zone, IsFooterFor, IsInReach}, Tails.{beginning_of, last_of, IsSavedFrom}, Tells.{Tells}, Values.{change_by, kind_by, value_by}, Walked.{Agrees, come, kind_from}}
 use Rattle.zone_tzif.specs.{declared.agreeing.Agreement.{Agreement, TheVariants.{Nowhere, From, Always}}, declared.convert.Saves.TheVariants.{Any}}
 use Rattle.zone_tzif.proofs.{EverLemmas.{early_is, footer_of, shows, up_to}, KindLemmas.{ever_is}, PlaceLemmas.{by_place}, TailEverLemmas.{Repeats, none_later, second_of_back, until_end}}
 use Rattle.zone_tzif_core.specs.{Totals.{last_kind}, Zones.{KindValue}, declared.values.Version.{Version, TheVariants.{Two}}}

@@ -3,8 +3,8 @@ use Rattle.std.proofs.{Common.{◌≡◌, ◌↔◌, ℕ, zero, suc, ◌-◌, �
 use Rattle.basics.specs.ComparisonLaws.{le_le, lt_le}
 use Rattle.zone_spans.specs.Entries.{Entry}
 use Rattle.tz_tzif.specs.FooterForce.{FooterZone, held_at}
-use Rattle.tz_lookup.specs.{YearSeconds.{rules_begin}, Sets.{shift_of, shifts_of}, Spans.{IsCut, TimesDontFall}, declared.set.FixedTimespanSet.{FixedTimespanSet}}
-use Rattle.zone_tzif.{specs.Agreement.{cycle_end, time_of_entry}, specs.Causes.{kind_in}, specs.Walked.{AgreesAt, IsWalked, Lasts, kind_from}, specs.declared.convert.Saves.TheVariants.{Any}, proofs.KindLemmas.{kind_cut}}
+use Rattle.tz_lookup.specs.{Sets.{shift_of, shifts_of}, Spans.{IsCut, TimesDontFall}, declared.set.FixedTimespanSet.{FixedTimespanSet}}
+use Rattle.zone_tzif.{specs.Agreement.{cycle_end, time_of_entry, year_zero}, specs.Causes.{kind_in}, specs.Walked.{AgreesAt, IsWalked, Lasts, kind_from}, specs.declared.convert.Saves.TheVariants.{Any}, proofs.KindLemmas.{kind_cut}}
 use Rattle.zone_tzif_core.specs.Zones.{KindValue}
 
 pub length-shifts : (entries : List Entry) → length (map shift_of entries) ≡ length entries
@@ -25,7 +25,7 @@ module _ (set : FixedTimespanSet) (times : TimesDontFall (shifts_of set)) where
   kind_is i s inside begun lasts = kind_cut set (suc i) s (cut i s inside begun lasts)
 
   -- of the entry i a start, an end and a kind were found
-  module _ (zone : FooterZone) (i : ℕ) (low high : ℤ) (kind : KindValue) (inside : i < length (shifts_of set)) (first : rules_begin ≤ℤ low)
+  module _ (zone : FooterZone) (i : ℕ) (low high : ℤ) (kind : KindValue) (inside : i < length (shifts_of set)) (first : year_zero ≤ℤ low)
       (at : low ≡ time_of_entry set i) (is : kind ≡ kind_in Any set (suc i)) (ends : (s : ℤ) → s <ℤ high ↔ Lasts set i s) where
     here : ((s : ℤ) → low ≤ℤ s → s <ℤ high → held_at zone s ≡ kind) → (s : ℤ) → time_of_entry set i ≤ℤ s → Lasts set i s
         → held_at zone s ≡ kind_from set s

@@ -7,7 +7,7 @@ use Rattle.tz_ever.specs.{Seam.{brought_back, cycles_past, next_seam}, SeamLaws.
 use Rattle.tz_tzif.specs.{FooterForce.{FooterZone, held_at, standard_total}, Years.{IsInYears}}
 use Rattle.tz_lookup.specs.{SecondLaws.{IsSecond, one_second, second_is}, declared.set.FixedTimespanSet.{FixedTimespanSet}}
 use Rattle.zone_tail.specs.Carried.{IsFrom}
-use Rattle.zone_tzif.{specs.Agreement.{AgreesForEver, IsCovered, cycle_begin, cycle_end}, specs.Walked.{Agrees, kind_from}, proofs.KindLemmas.{ever_is}}
+use Rattle.zone_tzif.{specs.Agreement.{AgreesForEver, IsCovered, cycle_begin, cycle_end, year_zero}, specs.Walked.{Agrees, kind_from}, proofs.KindLemmas.{ever_is}}
 
 -- the law of footers
 abbrev pub Repeats : Type 0
@@ -26,7 +26,7 @@ unfolding is_leap days_in_year days_in_month days_after_zero year_start days_thr
 last_of_all = refl
 
 -- a second of the cycle, so many cycles later
-abbrev later : ℤ → ℕ → ℤ
+abbrev pub later : ℤ → ℕ → ℤ
 later s k = s +ℤ pos (k * 12622780800)
 
 one_more : (s : ℤ) (k : ℕ) → later s (suc k) ≡ seconds_on (later s k)
@@ -46,8 +46,8 @@ module _ (repeats : Repeats) (zone : FooterZone) (offset : IsOffset (standard_to
       ap (held_at zone) (one_more s k) ∙ repeats zone (later s k) inside
       ∙ in_cycles s k from (omega (arith, signed, to))
 
-  -- an earlier second from 1800 on is a second of the cycle before
-  pub cycle_later : (s : ℤ) → neg_ℤ (pos 5364662400) ≤ℤ s → s <ℤ cycle_end → held_at zone (seconds_on s) ≡ held_at zone s
+  -- an earlier second from the year 0 on is a second of the cycle before
+  pub cycle_later : (s : ℤ) → year_zero ≤ℤ s → s <ℤ cycle_end → held_at zone (seconds_on s) ≡ held_at zone s
   cycle_later s from to =
       let o = standard_total zone in
       repeats zone s (record {

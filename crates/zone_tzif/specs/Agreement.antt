@@ -1,10 +1,10 @@
 -- Where a footer says what a set shows that goes on for ever: the offset, the abbreviation, and whether it is daylight saving time.
-use Rattle.std.specs.Prelude.{◌≡◌, ℕ, ◌<◌, length, Option, Some, None, true, ℤ, pos, ◌+ℤ◌, ◌*ℤ◌, ◌≤ℤ◌, ◌<ℤ◌}
+use Rattle.std.specs.Prelude.{◌≡◌, ℕ, ◌<◌, length, Option, Some, None, true, ℤ, pos, neg_ℤ, ◌+ℤ◌, ◌*ℤ◌, ◌≤ℤ◌, ◌<ℤ◌}
 use Rattle.basics.specs.Days.{day}
 use Rattle.civil_base.specs.{Instants.{seconds_of}, Ranges.{IsOffset}}
 use Rattle.tz_ever.specs.Ever.{ever_span}
 use Rattle.tz_tzif.specs.FooterForce.{FooterZone, held_at, is_fixed, standard_total}
-use Rattle.tz_lookup.specs.{YearSeconds.{rules_begin}, Sets.{shifts_of}, Spans.{shift_at}, declared.set.FixedTimespanSet.{FixedTimespanSet}}
+use Rattle.tz_lookup.specs.{Sets.{shifts_of}, Spans.{shift_at}, declared.set.FixedTimespanSet.{FixedTimespanSet}}
 use Rattle.zone_tail.specs.Carried.{IsFrom}
 use Rattle.zone_tzif.specs.{Values.{kind_by}, declared.convert.Saves.TheVariants.{Any}}
 use Rattle.zone_tzif_core.specs.Zones.{KindValue}
@@ -33,10 +33,14 @@ cycle_end = pos 16788297600
 abbrev pub time_of_entry : FixedTimespanSet → ℕ → ℤ
 time_of_entry set i = (shift_at (shifts_of set) i).0
 
--- a footer may begin at an entry from 1800 to 2101
+-- 0000-01-01 00:00:00 UTC: lines of zones end in later years
+abbrev pub year_zero : ℤ
+year_zero = neg_ℤ (pos 62167219200)
+
+-- a footer may begin at an entry from then to the end of 2101
 pub record MayBegin (set : FixedTimespanSet) (i : ℕ) : Type 0 where
   pub within : i < length (shifts_of set)
-  pub first : rules_begin ≤ℤ time_of_entry set i
+  pub first : year_zero ≤ℤ time_of_entry set i
   pub last : time_of_entry set i ≤ℤ cycle_begin
 
 -- from this entry on; and no footer at all, whose offset is in range, does so from an entry before it
@@ -52,8 +56,8 @@ pub record AgreesFirstFrom (zone : FooterZone) (set : FixedTimespanSet) (second 
 abbrev pub AgreesNowhere : FooterZone → FixedTimespanSet → Type 0
 AgreesNowhere zone set = (i : ℕ) → MayBegin set i → AgreesForEver zone set (Some (time_of_entry set i)) → ⊥
 
--- standard time alone, no entry before 1800, and so from the beginning of time on
+-- standard time alone, no entry before the year 0, and so from the beginning of time on
 pub record AgreesAlways (zone : FooterZone) (set : FixedTimespanSet) : Type 0 where
   pub fixed : is_fixed zone ≡ true
-  pub early : (i : ℕ) → i < length (shifts_of set) → rules_begin ≤ℤ time_of_entry set i
+  pub early : (i : ℕ) → i < length (shifts_of set) → year_zero ≤ℤ time_of_entry set i
   pub agrees : AgreesForEver zone set None

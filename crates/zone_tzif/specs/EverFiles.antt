@@ -1,14 +1,13 @@
 -- The file of a zone for ever, and why there is none.
 use Rattle.std.specs.Prelude.{◌≡◌, ◌⊎◌, ℕ, Bool, true, ◌&&◌, nat_le, List, [], filter, Option, Some, None, if◌then◌else◌, ℤ, int_le}
-use Rattle.civil_base.specs.Ranges.{IsOffset}
-use Rattle.tz_tzif.specs.{FooterForce.{FooterZone, fixed}, Values.{FooterValue, SavingValue}}
+use Rattle.tz_tzif.specs.{FooterForce.{FooterZone}, Values.{FooterValue, SavingValue}}
 use Rattle.tz_posix.specs.declared.time.Offset.{Offset}
 use Rattle.tz_lookup.specs.declared.set.FixedTimespanSet.{FixedTimespanSet}
 use Rattle.zone_spans.specs.Entries.{Entry}
-use Rattle.zone_tzif.specs.{Agreement.{IsCovered, cycle_begin}, Tails.{IsFaultForEver, IsTailForEver, beginning_of}, Tells.{Tells}, Walked.{kind_from}, declared.agreeing.Agreement.TheVariants.{Nowhere}, declared.outcome.EverTailFault.TheVariants.{NoRule}, Files.{IsFileFault}, Values.{value_by}, declared.convert.Saves.TheVariants.{Any}, declared.ever.EverFileFault.{EverFileFault}}
+use Rattle.zone_tzif.specs.{Agreement.{IsCovered, cycle_begin}, Tails.{IsFaultForEver, IsNotSaved, IsSavedFrom, IsTailForEver}, Files.{IsFileFault}, Values.{value_by}, declared.convert.Saves.TheVariants.{Any}, declared.ever.EverFileFault.{EverFileFault}}
 use Rattle.zone_tzif.specs.declared.file.FileFault.{FileFault}
 use Rattle.zone_tzif.specs.declared.ever.EverFileFault.TheVariants as fault
-use Rattle.zone_tzif_core.specs.{Tzif.{IsTzifBy, write_fault}, Zones.{KindValue, ZoneValue}, declared.values.Version.{Version}, declared.values.Version.TheVariants.{Two, Three}}
+use Rattle.zone_tzif_core.specs.{Tzif.{IsTzifBy, write_fault}, Zones.{ZoneValue}, declared.values.Version.{Version}, declared.values.Version.TheVariants.{Two, Three}}
 
 -- the entries up to a second
 unfoldable pub entries_until : ℤ → List Entry → List Entry
@@ -33,20 +32,6 @@ version_for footer = version_with footer.saving
 -- the changes up to 2102-01-01 00:00:00 UTC, from which on each year comes again, with any saving but 0 as daylight saving time
 abbrev pub ever_zone : FixedTimespanSet → List ℕ → ZoneValue
 ever_zone set footer = value_by Any (until cycle_begin set) footer
-
--- what is in force as 2102 begins
-abbrev pub last_of : FixedTimespanSet → KindValue
-last_of set = kind_from set cycle_begin
-
--- it is daylight saving time, and holds for good from there on: no footer says so, and none is due
-pub record IsSavedFrom (set : FixedTimespanSet) (from : Option ℤ) : Type 0 where
-  pub saved : (last_of set).is_dst ≡ true
-  pub offset : IsOffset (last_of set).utoff
-  pub tells : Tells (fixed (last_of set)) set (beginning_of from)
-
--- it is none, or doesn't hold for good
-abbrev pub IsNotSaved : FixedTimespanSet → Type 0
-IsNotSaved set = (last_of set).is_dst ≡ true → Tells (fixed (last_of set)) set Nowhere
 
 -- a footer, in the version that has it: what carries the set on for ever; or none, where daylight saving time holds for good
 pub record IsCarried (set : FixedTimespanSet) (version : Version) (footer : List ℕ) : Type 0 where
@@ -78,7 +63,7 @@ pub record IsNoEverFile (set : FixedTimespanSet) (fault : FileFault) : Type 0 wh
   pub is : IsFileFault fault (write_fault (ever_zone set footer))
 
 abbrev pub IsEverFileFault : FixedTimespanSet → EverFileFault → Type 0
-IsEverFileFault set (fault.Footer cause) = IsFaultForEver set cause × (cause ≡ NoRule → IsNotSaved set)
+IsEverFileFault set (fault.Footer cause) = IsFaultForEver set cause × IsNotSaved set
 IsEverFileFault set (fault.File cause) = IsNoEverFile set cause
 
 -- an instant up to the end of the year 9999 by the standard time of what a footer says

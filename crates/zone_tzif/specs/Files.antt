@@ -1,7 +1,7 @@
 -- The file of a compiled set, and why there is none.
 use Rattle.std.specs.Prelude.{◌≡◌, ℕ, Bool, ◌||◌, List, [], Option, Some, None, Result, Ok, Err, if◌then◌else◌, is_none}
 use Rattle.tz_lookup.specs.declared.set.FixedTimespanSet.{FixedTimespanSet}
-use Rattle.zone_tail.specs.{Carried.{CarriesOn}, Found.{found_from, found_text}, Tails.{is_ending_early, is_outlasting, tail_fault, IsTail}}
+use Rattle.zone_tail.specs.{Carried.{CarriesOn}, Found.{found_from, found_text}, Tails.{is_ending_early, is_outlasting, is_saving_on, tail_fault, IsTail}}
 use Rattle.zone_tzif_core.specs.{Tzif.{tzif, tzif_by, write_fault}, Zones.{ZoneValue}, declared.values.Version.{Version}, declared.values.Version.TheVariants.{Two}, declared.values.WriteFault.{WriteFault}}
 use Rattle.zone_tzif_core.specs.declared.values.WriteFault.TheVariants as write
 use Rattle.zone_tzif.specs.{Values.{value_of}, declared.file.FileFault.{FileFault}, declared.file.FileFault.TheVariants.{Times, Types, Names, NoMemory}}
@@ -21,9 +21,10 @@ zone_of set = value_of set (footer_of set)
 
 -- As a footer the string may say otherwise than the set: where a change of the set lies past all that it says, since a footer holds from
 -- the last change on and would take that back; or where daylight saving time ends in the first week of the last year, since then a
--- footer's rule may end it for the year after before the last year is over.
+-- footer's rule may end it for the year after before the last year is over; or where it holds all that year, since the string says standard
+-- time.
 unfoldable pub is_contradicted : FixedTimespanSet → Bool
-is_contradicted set = is_outlasting set || is_ending_early set
+is_contradicted set = is_outlasting set || is_ending_early set || is_saving_on set
 
 -- the same string, but where it may say otherwise
 unfoldable pub consistent_footer : FixedTimespanSet → List ℕ

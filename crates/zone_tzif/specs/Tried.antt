@@ -1,10 +1,10 @@
 -- The footers that are tried for a set, by number: each names the entries of one year by days and times of its own.
 use Rattle.std.specs.{Prelude.{ℕ, suc, ◌+◌, ◌-◌, ◌/◌, ◌%◌, Bool, not, ◌&&◌, ◌==◌, nat_le, nat_lt, List, [], ◌∷◌, ◌++◌, codes, Option, Some, None, if◌then◌else◌, ℤ, pos, neg_ℤ, ◌+ℤ◌, ◌-ℤ◌, ◌*ℤ◌, int_le, int_lt, unsigned_abs}, Fmt.{decimal}}
 use Rattle.std.specs.{Int.{int_div_euclid, int_rem_euclid}, Ordering.{int_eq}}
-use Rattle.basics.specs.{Dates.{day_of, month_of, year_of}, Days.{days_in_month}, Weekdays.{weekday_of}}
+use Rattle.basics.specs.{Dates.{day_of, month_of, year_of}, Days.{day as day_number, days_in_month}, Weekdays.{weekday_of}}
 use Rattle.zone_spans.specs.Entries.{Entry, total}
 use Rattle.tz_lookup.specs.{Sets.{shifts_of, span_in}, Spans.{Shift}, declared.set.FixedTimespanSet.{FixedTimespanSet}}
-use Rattle.zone_tail.specs.{LastYear.{Form, steady, yearly, other}, Shapes.{entry_in}, Tails.{can_be_written, is_name}, Texts.{name_text, offset_text, saving_text, time_text}}
+use Rattle.zone_tail.specs.{LastYear.{Form, steady, yearly, other}, Shapes.{entry_in}, Tails.{can_be_written, is_posix_name}, Texts.{name_text, offset_text, saving_text, time_text}}
 use Rattle.zone_tzif.specs.{Agreement.{cycle_begin}, declared.outcome.EverTailFault.{EverTailFault}}
 use Rattle.zone_tzif.specs.declared.outcome.EverTailFault.TheVariants as fault
 
@@ -49,9 +49,9 @@ abbrev pub written_or : Bool → Bool → Option EverTailFault
 written_or written named = if written then named_or named else Some fault.OffsetRange
 
 unfoldable pub form_fault : Form → Option EverTailFault
-form_fault (steady span) = written_or (can_be_written (total span)) (is_name span.name)
+form_fault (steady span) = written_or (can_be_written (total span)) (is_posix_name span.name)
 form_fault (yearly start end) =
-    written_or (can_be_written (total end.1) && can_be_written (total start.1)) (is_name end.1.name && is_name start.1.name)
+    written_or (can_be_written (total end.1) && can_be_written (total start.1)) (is_posix_name end.1.name && is_posix_name start.1.name)
 form_fault other = Some fault.Shape
 
 abbrev pub ever_fault : FixedTimespanSet → Option EverTailFault
@@ -90,23 +90,40 @@ unfoldable pub moment_text : ℤ → ℤ → ℕ → List ℕ
 moment_text day time choice =
     parts_text (month_of day) (week_of (days_in_month (year_of day) (month_of day)) (day_of day) choice) (weekday_of day) time
 
--- the name of a local second by number, of 28
+abbrev pub numbered_text : ℕ → ℤ → List ℕ
+numbered_text number time = codes "J" ++ decimal number ++ signed_text time
+
+-- the number of a day in its year, which isn't a leap year and stands for all, and the seconds from its midnight
+unfoldable pub dated_text : ℤ → ℤ → List ℕ
+dated_text day time = numbered_text (unsigned_abs (day -ℤ day_number (year_of day) 1 1) + 1) time
+
+-- such a name, or one by the weekday
+abbrev pub named_text : Bool → ℤ → ℤ → ℕ → List ℕ
+named_text is_dated day time choice = if is_dated then dated_text day time else moment_text day time choice
+
+-- the name of a local second by number, of 42: two by the weekday of each of 14 days, and then one by the date of each
+abbrev pub is_dated : ℕ → Bool
+is_dated n = nat_le 28 n
+
+abbrev pub day_by : ℕ → ℕ
+day_by n = if is_dated n then n - 28 else n / 2
+
 unfoldable pub change_by : ℤ → ℕ → List ℕ
 change_by local n =
-    let day = int_div_euclid local (pos 86400) -ℤ days_back (is_past_noon local) (n / 2) in
-    moment_text day (local -ℤ pos 86400 *ℤ day) (n % 2)
+    let day = int_div_euclid local (pos 86400) -ℤ days_back (is_past_noon local) (day_by n) in
+    named_text (is_dated n) day (local -ℤ pos 86400 *ℤ day) (n % 2)
 
 abbrev pub how_many : ℕ
-how_many = 784
+how_many = 1764
 
 -- standard and daylight saving time, each by its name and its total
 abbrev pub totals_for : Entry → Entry → List ℕ
 totals_for start end =
     name_text end.1.name ++ offset_text (total end.1) ++ name_text start.1.name ++ saving_text (total end.1) (total start.1)
 
--- two local seconds, the first by n / 28 and the second by what is left
+-- two local seconds, the first by n / 42 and the second by what is left
 abbrev pub changes_by : ℤ → ℤ → ℕ → List ℕ
-changes_by start end n = codes "," ++ change_by start (n / 28) ++ codes "," ++ change_by end (n % 28)
+changes_by start end n = codes "," ++ change_by start (n / 42) ++ codes "," ++ change_by end (n % 42)
 
 -- the start is read at the standard offset, the end at that of daylight saving time
 unfoldable pub tried_for : Form → ℕ → List ℕ

@@ -2,9 +2,9 @@
 use Rattle.std.specs.Prelude.{◌≡◌, ℕ, suc, ◌<◌, ◌≤◌, List, filter, length, map, Option, Some, ℤ, pos, neg_ℤ, ◌≤ℤ◌, ◌<ℤ◌, int_le}
 use Rattle.zone_spans.specs.Entries.{Entry}
 use Rattle.tz_tzif.specs.FooterForce.{FooterZone, held_at}
-use Rattle.tz_lookup.specs.{YearSeconds.{rules_begin}, Sets.{shifts_of}, declared.set.FixedTimespanSet.{FixedTimespanSet}}
+use Rattle.tz_lookup.specs.{Sets.{shifts_of}, declared.set.FixedTimespanSet.{FixedTimespanSet}}
 use Rattle.zone_tail.specs.Carried.{IsFrom}
-use Rattle.zone_tzif.specs.{Agreement.{cycle_end, time_of_entry}, Values.{change_by, kind_by}, declared.convert.Saves.TheVariants.{Any}}
+use Rattle.zone_tzif.specs.{Agreement.{cycle_end, time_of_entry, year_zero}, Values.{change_by, kind_by}, declared.convert.Saves.TheVariants.{Any}}
 use Rattle.zone_tzif_core.specs.{Totals.{last_kind}, Zones.{KindValue}}
 
 -- the changes up to a second, as those of a file
@@ -22,7 +22,7 @@ module _ (zone : FooterZone) (set : FixedTimespanSet) where
 
   -- from entry i on
   pub record AgreesAt (i : ℕ) : Type 0 where
-    pub first : rules_begin ≤ℤ time_of_entry set i
+    pub first : year_zero ≤ℤ time_of_entry set i
     pub from : Agrees (Some (time_of_entry set i))
 
   -- the entries from n on agree, and the one before them doesn't
@@ -36,7 +36,7 @@ pub record Lasts (set : FixedTimespanSet) (i : ℕ) (s : ℤ) : Type 0 where
   pub next : suc i < length (shifts_of set) → s <ℤ time_of_entry set (suc i)
   pub cycle : s <ℤ cycle_end
 
--- at most 20,000,000,000 in size
+-- at most 70,000,000,000 in size
 pub record IsNear (second : ℤ) : Type 0 where
-  pub least : neg_ℤ (pos 20000000000) ≤ℤ second
-  pub greatest : second ≤ℤ pos 20000000000
+  pub least : neg_ℤ (pos 70000000000) ≤ℤ second
+  pub greatest : second ≤ℤ pos 70000000000

@@ -8,20 +8,18 @@ ghost use Rattle.zone_tzif.specs.{Agreement.{AgreesAlways, cycle_begin, time_of_
 
 use crate::causes::kind_at;
 use crate::convert::Saves;
+use crate::until::CYCLE_BEGIN;
 use crate::walk::{is_held, walk};
 use tz_lookup::SpanTable;
 use tz_tzif::Footer;
 use tz_tzif::repeats::footers_repeat;
 use zone_tzif_core::Record;
 
-/// 2102-01-01 00:00:00 UTC.
-const CYCLE_BEGIN: i64 = 4_165_516_800;
-
 /// Where a footer begins to say what a set shows for ever, up to the end of the year 9999 by its standard time: the offset, the
 /// abbreviation, and any saving but 0 as daylight saving time.
 #[derive(Clone, Copy, Debug, PartialEq, Eq)]
 pub enum Agreement {
-    /// At no entry from 1800 to 2101.
+    /// At no entry from the year 0 to 2101.
     Nowhere,
     /// At the first of these entries from which on it does, a second from 1970-01-01 00:00:00 UTC. No footer at all does so from an
     /// earlier one.

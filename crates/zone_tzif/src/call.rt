@@ -2,12 +2,13 @@
 ghost use Rattle.std.specs.Prelude.{◌≡◌, ◌<◌, IfOk, MatchOption, MatchResult, None, string_bytes};
 ghost use Rattle.tz_ever.specs.ZoneShown.{zone_set_of};
 ghost use Rattle.tz_lookup.specs.Sets.{IsAccepted, schedule_of};
-ghost use Rattle.zone_tzif.specs.{Forms.{Shows}, Tails.{CarriesForEver, CarriesNothing, IsFaultForEver, IsTailForEver, TextTells}, Tried.{ever_fault, ever_form, how_many, tried}};
+ghost use Rattle.zone_tzif.specs.{Forms.{Shows}, Tails.{CarriesForEver, CarriesNothing, IsFaultForEver, IsNotSaved, IsTailForEver, TextTells}, Tried.{ever_fault, ever_form, how_many, tried}};
 
 use crate::agreeing::{Agreement, first_agreement};
 use crate::faults::fault_in;
 use crate::form::{Form, form_of};
 use crate::outcome::{EverTail, EverTailFault};
+use crate::saved::is_saved_for_good;
 use crate::tried::tried_text;
 use std::alloc::{AllocError, Global};
 use tz_ever::ZoneSet;
@@ -15,19 +16,19 @@ use tz_lookup::SpanTable;
 use tz_tzif::{Footer, one_footer};
 
 /// How many footers are tried.
-const HOW_MANY: u32 = 784;
+const HOW_MANY: u32 = 1_764;
 
 /// The footer that carries a zone on for ever, and the entry from which on it says what the zone shows at every instant up to the end of
 /// the year 9999: the offset, the abbreviation, and any saving but 0 as daylight saving time.
 ///
 /// A zone without an entry in 2102 has a footer of standard time alone. One with two, with which daylight saving time starts and
-/// ends, has a rule of two `M` dates, each with a time from -167 to 167 hours; its saving may lie below 0. Of those that name the
-/// entries of 2102 the first is given that says the same for ever; it says so from the first entry from 1800 on from which it can.
+/// ends, has a rule of two `M` or `J` dates, each with a time from -167 to 167 hours; its saving may lie below 0. Of those that name the
+/// entries of 2102 the first is given that says the same for ever; it says so from the first entry from which it can.
 ///
 /// # Errors
 ///
-/// In this order, and each exactly where it says: `Shape`, `OffsetRange`, `Name`; `NoRule`. `NoMemory`, and never where one of the
-/// first three is due.
+/// In this order, and each exactly where it says: `Saving`, `Shape`, `OffsetRange`, `Name`; `NoRule`. `NoMemory`, and never where one of
+/// the first four is due.
 pub fn tail_for_ever(alloc: Global, set: &ZoneSet) -> Result<EverTail, EverTailFault>
     ensures { MatchResult result (λ tail. IsTailForEver (zone_set_of set.now) tail.from (string_bytes tail.text)) (IsFaultForEver (zone_set_of set.now)) }
 {
@@ -39,6 +40,9 @@ fn tail_of<S: SpanTable>(alloc: Global, set: &S) -> Result<EverTail, EverTailFau
     requires { IsAccepted (schedule_of (S.seen set.now)) }
     ensures { MatchResult result (λ tail. IsTailForEver (S.seen set.now) tail.from (string_bytes tail.text)) (IsFaultForEver (S.seen set.now)) }
 {
+    if is_saved_for_good(set) {
+        return Err(EverTailFault::Saving);
+    }
     let form = form_of(set);
     match fault_in(set, &form) {
         Some(fault) => Err(fault),
@@ -50,6 +54,7 @@ fn tail_of<S: SpanTable>(alloc: Global, set: &S) -> Result<EverTail, EverTailFau
 fn first_tail<S: SpanTable>(alloc: Global, set: &S, form: &Form) -> Result<EverTail, EverTailFault>
     requires accepted { IsAccepted (schedule_of (S.seen set.now)) }
     requires form { Shows (S.seen set.now) (ever_form (S.seen set.now)) form.now }
+    requires unsaved { IsNotSaved (S.seen set.now) }
     requires none { ever_fault (S.seen set.now) ≡ None }
     ensures { MatchResult result (λ tail. IsTailForEver (S.seen set.now) tail.from (string_bytes tail.text)) (IsFaultForEver (S.seen set.now)) }
 {

@@ -3,7 +3,7 @@ ghost use Rattle.std.specs.Prelude.{◌≡◌, ℕ, ℤ, IfOk, List, MatchResult
 ghost use Rattle.tz_ever.specs.{Ever.{ever_total}, ZoneShown.{zone_set_of}};
 ghost use Rattle.tz_tzif.specs.{FooterForce.{FooterZone}, Faults.{SaysInFooter}, InForce.{kind_at, told_total_at}};
 ghost use Rattle.tz_lookup.specs.declared.set.FixedTimespanSet.{FixedTimespanSet};
-ghost use Rattle.zone_tzif.specs.{Agreement.{ever_kind}, Tails.{IsFaultForEver}, EverFiles.{IsEverFile, IsEverFileFault, IsFooterFor, IsInReach}, declared.outcome.EverTailFault.TheVariants.{NoRule}};
+ghost use Rattle.zone_tzif.specs.{Agreement.{ever_kind}, EverFiles.{IsEverFile, IsEverFileFault, IsFooterFor, IsInReach}};
 ghost use Rattle.zone_tzif_core.specs.{Denotes.{Denotes}, Zones.{ZoneValue}};
 
 use crate::call::tail_for_ever;
@@ -51,7 +51,7 @@ pub fn ever_totals()
 /// The TZif file of a zone that goes on for ever: its changes up to 2102-01-01 00:00:00 UTC, from which on each year comes again, and the
 /// footer of [`tail_for_ever`], which says the same from one of these changes on, or from the beginning of time.
 /// So the last change and the footer agree. A saving below 0 is daylight saving time too. Where daylight saving time holds for good from
-/// then on there is no footer, since none says so, and the last change is what holds. The version is 3 where a rule's time in the footer
+/// then on there is no footer, and the last change is what holds. The version is 3 where a rule's time in the footer
 /// lies below 0 or has an hour past 24, and else 2: 24:30 is one of version 2.
 ///
 /// # Errors
@@ -67,26 +67,23 @@ pub fn tzif_for_ever(alloc: Global, set: &ZoneSet) -> Result<Vec<u8>, EverFileFa
 {
     ever_kinds();
     ever_totals();
+    due_file(alloc, set)
+}
+
+/// The file that is due: without a footer where daylight saving time holds for good.
+fn due_file(alloc: Global, set: &ZoneSet) -> Result<Vec<u8>, EverFileFault>
+    ensures { MatchResult result (λ file. IsEverFile (zone_set_of set.now) file.items) (IsEverFileFault (zone_set_of set.now)) }
+{
+    if is_saved_for_good(set.compact()) {
+        return file_with(alloc, set, Version::Two, "");
+    }
     match tail_for_ever(alloc, set) {
         Ok(tail) => {
             let footer = tail.text.as_str();
             let version = version_of(footer);
             file_with(alloc, set, version, footer)
         }
-        Err(EverTailFault::NoRule) => file_without(alloc, set),
         Err(fault) => Err(EverFileFault::Footer(fault)),
-    }
-}
-
-/// The file of a set without a footer, where daylight saving time holds for good.
-fn file_without(alloc: Global, set: &ZoneSet) -> Result<Vec<u8>, EverFileFault>
-    requires { IsFaultForEver (zone_set_of set.now) NoRule }
-    ensures { MatchResult result (λ file. IsEverFile (zone_set_of set.now) file.items) (IsEverFileFault (zone_set_of set.now)) }
-{
-    if is_saved_for_good(set.compact()) {
-        file_with(alloc, set, Version::Two, "")
-    } else {
-        Err(EverFileFault::Footer(EverTailFault::NoRule))
     }
 }
 

@@ -3,13 +3,13 @@ ghost use Rattle.std.specs.Prelude.{◌≡◌, ◌<◌, ◌&&◌, length, pos, n
 ghost use Rattle.civil_base.specs.Ranges.{greatest_offset};
 ghost use Rattle.tz_lookup.specs.Sets.{IsAccepted, schedule_of};
 ghost use Rattle.zone_spans.specs.Entries.{total};
-ghost use Rattle.zone_tail.specs.{Shapes.{entry_in}, Tails.{can_be_written, is_name}};
+ghost use Rattle.zone_tail.specs.{Shapes.{entry_in}, Tails.{can_be_written, is_posix_name}};
 ghost use Rattle.zone_tzif.specs.{Forms.{ArePlaced, Shows}, Tried.{ever_fault, ever_form, written_or}};
 
 use crate::form::Form;
 use crate::outcome::EverTailFault;
 use tz_lookup::SpanTable;
-use zone_tail::parts::{can_be_written, entry_span, is_name, total_of};
+use zone_tail::parts::{can_be_written, entry_span, is_posix_name, total_of};
 
 /// The first cause, or none.
 pub(crate) fn fault_in<S: SpanTable>(set: &S, form: &Form) -> Option<EverTailFault>
@@ -20,7 +20,7 @@ pub(crate) fn fault_in<S: SpanTable>(set: &S, form: &Form) -> Option<EverTailFau
     match form {
         Form::Steady(span) => written_or(
             can_be_written(total_of(set, *span)),
-            is_name(set.span(*span).name.as_str()),
+            is_posix_name(set.span(*span).name.as_str()),
         ),
         Form::Yearly { start, end } => written_or(
             are_written(set, *start, *end),
@@ -67,7 +67,8 @@ pub(crate) fn total_of_entry<S: SpanTable>(set: &S, entry: usize) -> i64
 /// Whether their names can.
 fn are_names<S: SpanTable>(set: &S, start: usize, end: usize) -> bool
     requires { ArePlaced (S.seen set.now) start end }
-    ensures { result ≡ (is_name (entry_in (S.seen set.now) end).1.name && is_name (entry_in (S.seen set.now) start).1.name) }
+    ensures { result ≡ (is_posix_name (entry_in (S.seen set.now) end).1.name && is_posix_name (entry_in (S.seen set.now) start).1.name) }
 {
-    is_name(entry_span(set, end).name.as_str()) && is_name(entry_span(set, start).name.as_str())
+    is_posix_name(entry_span(set, end).name.as_str())
+        && is_posix_name(entry_span(set, start).name.as_str())
 }

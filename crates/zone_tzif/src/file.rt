@@ -13,7 +13,7 @@ use std::alloc::{AllocError, Global};
 use thiserror::Error;
 use tz_lookup::SpanTable;
 use zone_tail::laws::one_tail;
-use zone_tail::{TailFault, is_ending_early, is_outlasting, tail};
+use zone_tail::{TailFault, is_ending_early, is_outlasting, is_saving_on, tail};
 use zone_tzif_core::{Version, WriteFault, each_denotes, one_reading, write_version};
 
 /// Why a set has no file, the first cause that holds.
@@ -61,13 +61,13 @@ fn footer_of<S: SpanTable>(alloc: Global, set: &S) -> Result<String, AllocError>
 }
 
 /// Whether a set's string may say otherwise as a footer: a change lies past all that it says, or daylight saving time ends in the
-/// first week of the last year.
+/// first week of the last year, or holds all of it.
 #[tactic(auto, unfolding(crate::specs::Files::is_contradicted))]
 fn is_contradicted<S: SpanTable>(set: &S) -> bool
     requires { IsAccepted (schedule_of (S.seen set.now)) }
     ensures { result ≡ is_contradicted (S.seen set.now) }
 {
-    is_outlasting(set) || is_ending_early(set)
+    is_outlasting(set) || is_ending_early(set) || is_saving_on(set)
 }
 
 /// The string that carries a set on, or nothing where it has none or may say otherwise as a footer.
@@ -151,9 +151,9 @@ pub fn tzif_of<S: SpanTable>(alloc: Global, set: &S) -> Result<Vec<u8>, FileFaul
 }
 
 /// The same file, or the one without a footer: where the set has a change at or past the end of the year 2099, or its daylight saving
-/// time of that year ends in the first week of January. Whatever zone is read from the file has the set's offset at each instant before
-/// the end of that year also by the footer, and at each instant at all where there is none. RFC 8536 wants a footer to be consistent
-/// with the last change.
+/// time of that year ends in the first week of January or never, which its string calls standard time. Whatever zone is read from the
+/// file has the set's offset at each instant before the end of that year also by the footer, and at each instant at all where there is
+/// none. RFC 8536 wants a footer to be consistent with the last change.
 ///
 /// # Errors
 ///

@@ -4,10 +4,8 @@ ghost use Rattle.tz_lookup.specs.Sets.{shifts_of};
 ghost use Rattle.zone_tail.specs.Shapes.{entry_in};
 ghost use Rattle.zone_tzif.specs.{Forms.{Shows}, Tried.{are_start_and_end, ever_form, first_from, form_of_two, is_of_year}};
 
+use crate::until::CYCLE_BEGIN;
 use tz_lookup::{FixedTimespan, SpanTable};
-
-/// 2102-01-01 00:00:00 UTC.
-const CYCLE_BEGIN: i64 = 4_165_516_800;
 
 /// 2103-01-01 00:00:00 UTC.
 const NEXT_YEAR: i64 = 4_197_052_800;

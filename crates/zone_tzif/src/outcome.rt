@@ -10,17 +10,20 @@ pub struct EverTail {
     pub text: String,
 }
 
-/// Why no footer is given. The causes are tried in the order `Shape`, `OffsetRange`, `Name`, `NoRule`.
+/// Why no footer is given. The causes are tried in the order `Saving`, `Shape`, `OffsetRange`, `Name`, `NoRule`.
 #[derive(Clone, Copy, Debug, PartialEq, Eq)]
 pub enum EverTailFault {
+    /// Daylight saving time holds for good, from the beginning of 2102 at the latest: a footer of one offset says standard time.
+    Saving,
     /// The year 2102 has entries, and they are not two, one of which starts daylight saving time with a saving other than 0 and the
     /// other ends it, both with one standard offset.
     Shape,
     /// An offset that would be written is past 24:59:59.
     OffsetRange,
-    /// A name that would be written is empty or has a `<`, a `>`, a line feed or a zero byte.
+    /// POSIX has no place for a name that would be written: it has less than three bytes, or others than ASCII letters, digits, `+` and
+    /// `-`.
     Name,
-    /// No footer that names the entries of 2102 by their weekdays, with times from -167 to 167 hours, says the same for ever.
+    /// No footer that names the entries of 2102 by weekdays or by dates, with times from -167 to 167 hours, says the same for ever.
     NoRule,
     /// There is no memory for a footer.
     NoMemory,

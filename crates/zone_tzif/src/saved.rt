@@ -1,9 +1,9 @@
-//! Daylight saving time that holds for good, which no footer says.
+//! Daylight saving time that holds for good, which no footer that is tried says.
 ghost use Rattle.std.specs.Prelude.{◌≡◌, ℤ, IsTrue, Option, false};
 ghost use Rattle.civil_base.specs.Ranges.{IsOffset};
 ghost use Rattle.tz_tzif.specs.FooterShown.{footer_shown, held_shown};
 ghost use Rattle.tz_lookup.specs.Sets.{IsAccepted, schedule_of};
-ghost use Rattle.zone_tzif.specs.{EverFiles.{IsNotSaved, IsSavedFrom, last_of}, Tails.{beginning_of}, Tells.{Tells}, declared.agreeing.Agreement.TheVariants.{Nowhere}};
+ghost use Rattle.zone_tzif.specs.{Tails.{beginning_of, IsNotSaved, IsSavedFrom, last_of}, Tells.{Tells}, declared.agreeing.Agreement.TheVariants.{Nowhere}};
 
 use crate::agreeing::{Agreement, first_agreement};
 use crate::causes::kind_at;

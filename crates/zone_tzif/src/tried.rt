@@ -14,7 +14,7 @@ use tz_lookup::SpanTable;
 use zone_tail::parts::{add, entry_span, entry_time, steady_text, total_of, totals_text};
 
 /// How many ways there are to name a change.
-const WAYS: u32 = 28;
+const WAYS: u32 = 42;
 
 /// The footer of that number.
 pub(crate) fn tried_text<S: SpanTable>(

@@ -1,15 +1,18 @@
 //! How far back a footer says what a set shows.
 ghost use Rattle.std.specs.Prelude.{◌≡◌, suc, ◌≤◌, ◌<◌, ◌↔◌, IsTrue, length, ℤ, ◌≤ℤ◌, ◌<ℤ◌};
 ghost use Rattle.tz_tzif.specs.{FooterForce.{held_at}, FooterShown.{footer_shown, held_shown}};
-ghost use Rattle.tz_lookup.specs.{YearSeconds.{rules_begin}, Sets.{IsAccepted, schedule_of, shifts_of}};
+ghost use Rattle.tz_lookup.specs.Sets.{IsAccepted, schedule_of, shifts_of};
 ghost use Rattle.zone_tzif_core.specs.Shown.{record_shown};
-ghost use Rattle.zone_tzif.specs.{Agreement.{cycle_end, time_of_entry}, Walked.{AgreesAt, IsNear, IsWalked, Lasts}};
+ghost use Rattle.zone_tzif.specs.{Agreement.{cycle_end, time_of_entry, year_zero}, Walked.{AgreesAt, IsNear, IsWalked, Lasts}};
 
 use crate::causes::kind_at;
 use crate::convert::Saves;
-use tz_lookup::{Offset, RULES_BEGIN, SpanTable};
+use tz_lookup::{Offset, SpanTable};
 use tz_tzif::{Footer, Held};
 use zone_tzif_core::Record;
+
+/// 0000-01-01 00:00:00 UTC.
+const YEAR_ZERO: i64 = -62_167_219_200;
 
 /// 2502-01-01 00:00:00 UTC.
 const CYCLE_END: i64 = 16_788_297_600;
@@ -86,7 +89,7 @@ fn agrees_in_span<S: SpanTable>(footer: &Footer<'_>, set: &S, entry: usize) -> b
     requires accepted { IsAccepted (schedule_of (S.seen set.now)) }
     requires within { entry < length (S.seen set.now).others }
     requires bound { entry < 18446744073709551615 }
-    requires first { rules_begin ≤ℤ time_of_entry (S.seen set.now) entry }
+    requires first { year_zero ≤ℤ time_of_entry (S.seen set.now) entry }
     requires later { suc entry < length (shifts_of (S.seen set.now)) → AgreesAt (footer_shown footer.now) (S.seen set.now) (suc entry) }
     ensures { IsTrue result ↔ AgreesAt (footer_shown footer.now) (S.seen set.now) entry }
 {
@@ -106,7 +109,7 @@ fn goes_on<S: SpanTable>(footer: &Footer<'_>, set: &S, entry: usize) -> bool
     requires later { suc entry < length (shifts_of (S.seen set.now)) → AgreesAt (footer_shown footer.now) (S.seen set.now) (suc entry) }
     ensures { IsTrue result ↔ AgreesAt (footer_shown footer.now) (S.seen set.now) entry }
 {
-    set.time(entry) >= RULES_BEGIN && agrees_in_span(footer, set, entry)
+    set.time(entry) >= YEAR_ZERO && agrees_in_span(footer, set, entry)
 }
 
 /// The first of the entries from each of which on a footer agrees, or how many entries there are.

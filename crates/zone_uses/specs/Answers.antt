@@ -2,7 +2,7 @@
 use Rattle.std.specs.{Prelude.{◌≡◌, ℕ, ℤ, int_lt, List, [], ◌∷◌, Option, Some, None, Ok}, List.{find}}
 use Rattle.tz_posix.specs.{Parses.{IsParsed}, PosixShown.{posix_of}, PosixZones.{GivesTotal}, declared.posix.PosixTz.{PosixTz}}
 use Rattle.tz_lookup.specs.declared.set.FixedTimespanSet.{FixedTimespanSet}
-use Rattle.tz_tzif.specs.{Faults.{SaysInFooter}, InForce.{told_total_at}, Zones.{value_of, says_of}, declared.zone.TzifTz.{TzifTz}}
+use Rattle.tz_tzif.specs.{FooterForce.{FooterZone}, Faults.{SaysInFooter}, InForce.{told_total_at}}
 use Rattle.zone_tzif_core.specs.{Denotes.{Says}, Zones.{ZoneValue}}
 
 -- the first of a list, if it has one
@@ -20,11 +20,10 @@ pub record IsGivenBy (text : List ℕ) (zones : List FixedTimespanSet) (t total 
   pub is_parsed : IsParsed text zones (Ok zone)
   pub given : GivesTotal (posix_of zone) t total
 
--- the bytes are a file of a zone that can be asked, and that has this total at an instant, from its last change on by what its footer says
+-- the bytes are a file of a zone that has this total at an instant, from its last change on by what its footer says
 pub record IsGivenByFile (bytes : List ℕ) (t total : ℤ) : Type 0 where
   pub value : ZoneValue
-  pub zone : TzifTz
+  pub footer : Option FooterZone
   pub is_file : Says bytes value
-  pub is_zone : value_of zone ≡ value
-  pub says : SaysInFooter value.footer (says_of zone)
-  pub is : total ≡ told_total_at (value_of zone) (says_of zone) t
+  pub says : SaysInFooter value.footer footer
+  pub is : total ≡ told_total_at value footer t

@@ -1,11 +1,11 @@
 -- Why the callers have no answer.
 use Rattle.std.specs.Prelude.{◌≡◌, ◌≤◌, ℕ, List, length, ℤ, true, false, Some, None, Ok, Err}
-use Rattle.sefunjaro.specs.{AnySources.{IsAnyFault, IsAnySource}, Causes.{IsSourceCause}, Sources.{table_in}, declared.source.OpenSource.{OpenSource}, declared.error.Error.{Error}}
+use Rattle.sefunjaro.specs.{AnySources.{IsAnyFault, IsAnySource}, Causes.{IsSourceCause}, Files.{IsFileFault}, Sources.{table_in}, declared.source.OpenSource.{OpenSource}, declared.error.Error.{Error}}
 use Rattle.sefunjaro.specs.declared.any_source.AnySourceFault.TheVariants as any_source
 use Rattle.sefunjaro.specs.declared.error.Error.TheVariants as error
+use Rattle.sefunjaro.specs.declared.file.FileFault.TheVariants as opened_file
 use Rattle.tz_posix.specs.{Parses.{IsParsed}, PosixShown.{posix_of}, PosixZones.{posix_refusal}, declared.error.ParseError.{ParseError}, declared.posix.PosixTz.{PosixTz}}
 use Rattle.tz_posix.specs.declared.error.Error as range
-use Rattle.tz_tzif.specs.{Faults.{IsTzifFault}, declared.fault.TzifFault.{TzifFault}}
 use Rattle.tz_tzif.specs.declared.fault.TzifFault.TheVariants as file_zone
 use Rattle.tz_lookup.specs.{Compiles.{compiled_in, IsZoneFault}, declared.compile.ZoneFault.{ZoneFault}, declared.set.FixedTimespanSet.{FixedTimespanSet}}
 use Rattle.tz_lookup.specs.declared.compile.ZoneFault.TheVariants as zone
@@ -14,7 +14,6 @@ use Rattle.zone_alarm.specs.declared.ring.AlarmFault.TheVariants as alarm
 use Rattle.zone_outside.specs.Limit.{text_limit}
 use Rattle.zone_source.specs.{Faults.{source_fault}, Zones.{values_of}}
 use Rattle.zone_table.specs.{Tables.{IsTableOf}, declared.table.Table.{Table}}
-use Rattle.zone_tzif_core.specs.{Denotes.{Says}, Zones.{ZoneValue}}
 use Rattle.zone_tzif_core.specs.declared.values.ReadFault.TheVariants as read
 
 -- the source isn't too long, no line of it is refused, and the name has no zone in its table
@@ -62,18 +61,11 @@ IsAlarmCause first days (error.Alarm alarm.Range) = ends_in_years first days ≡
 IsAlarmCause first days error.NoMemory = ends_in_years first days ≡ true
 IsAlarmCause first days _ = ⊥
 
--- the bytes are a file of a zone that can't be asked
-pub record IsNoFileZone (bytes : List ℕ) (fault : TzifFault) : Type 0 where
-  pub value : ZoneValue
-  pub is_file : Says bytes value
-  pub cause : IsTzifFault value fault
-
--- why bytes have no zone: they are no file, or its zone can't be asked; or they are one, and memory ran out
+-- why bytes have no zone: they are no file, or the footer of one can't be read; or they are one, and memory ran out
 abbrev pub IsFileCause : List ℕ → Error → Type 0
-IsFileCause bytes (error.File read.Refused) = (value : ZoneValue) → ¬ (Says bytes value)
-IsFileCause bytes (error.FileZone file_zone.NoMemory) = ⊥
-IsFileCause bytes (error.FileZone fault) = IsNoFileZone bytes fault
-IsFileCause bytes error.NoMemory = (value : ZoneValue) × Says bytes value
+IsFileCause bytes (error.File read.Refused) = IsFileFault bytes opened_file.Refused
+IsFileCause bytes (error.FileZone file_zone.Footer) = IsFileFault bytes opened_file.Footer
+IsFileCause bytes error.NoMemory = IsFileFault bytes opened_file.NoMemory
 IsFileCause bytes _ = ⊥
 
 -- why a text gives an instant no offset: it is no zone over those of a database; or it is one, and refuses the instant's year

@@ -1,11 +1,11 @@
 -- A time at the front of a text is read where there is one.
-use Rattle.std.proofs.Common.{◌≡◌, refl, sym, ap, subst, ◌∙◌, arith, ℕ, ◌-◌, ◌*◌, ◌^◌, ◌<◌, ◌≤◌, inl, inr, Bool, true, false, cond, nat_eq, min}
+use Rattle.std.proofs.Common.{◌≡◌, refl, sym, ap, subst, ◌∙◌, arith, ℕ, ◌-◌, ◌*◌, ◌^◌, ◌<◌, ◌≤◌, inl, inr, Bool, true, false, cond, nat_eq, nat_le, min}
 use Rattle.std.proofs.{Common.{List, [], ◌∷◌, ◌++◌, length, length-append, append_assoc, Option, Some, None, Result, Ok, Err, is_ok, ℤ, pos, option_map, MatchOption}, lemmas.Bool.{and_parts}, lemmas.Bool.Decides.{nat_tests}, lemmas.List.{take-append-drop}}
 use Rattle.std.proofs.{lemmas.Option.{same_Some, none-some}, Math.Nat.{min-eq_left, le-mul_of_pos_right}}
 use Rattle.std.specs.{Result.{result_ok}, Char.{is_ascii_digit}, List.{prefix_len, list_all}}
 use Rattle.basics.specs.{LogicLaws.{map_some, bind_some}, SignedLaws.{signed}, Marks.{after_mark}}
-use Rattle.civil_base.specs.{DateTimes.{instant as instant_of}, Layout.{two_digits}, Ranges.{IsInYears}, RangeLaws.{years_end}, declared.offset_date_time.OffsetDateTime.{OffsetDateTime}}
-use Rattle.zone_words.{proofs.{AgainLemmas.{begins, goes_on, run_again, no_digit}, FoundLemmas.{marked, chosen, same_Ok}, NumberLemmas.{run_passes}}, specs.{Numbers.{counted}, Pieces.{digit_at, two_at, four_at, date_at, run_of, after_run}, Readings.{count_at, count_in, count_of, size_at, front_at, zoned_at, zoned_in, in_years}, TimesShown.{stamp_shown}, Spells.{AreDigits, since, before, zoned, time}, Stamps.{is_apart, unit_of, SpellsStamp, instant, plain, HasStamp, stamp, stamped, numbered, left_in, stamp_in}, declared.text_fault.TextFault.{TextFault}, declared.form.{WrittenInstant.{WrittenInstant}, WrittenCount.{WrittenCount}}}}
+use Rattle.civil_base.specs.{DateTimes.{instant as instant_of}, Layout.{two_digits}, Ranges.{IsInYears}, RangeLaws.{years_between}, declared.offset_date_time.OffsetDateTime.{OffsetDateTime}}
+use Rattle.zone_words.{proofs.{AgainLemmas.{begins, goes_on, run_again, no_digit}, FoundLemmas.{marked, chosen, passed, same_Ok}, NumberLemmas.{run_passes}}, specs.{Numbers.{counted}, Pieces.{digit_at, two_at, four_at, date_at, run_of, after_run}, Readings.{count_at, count_in, count_of, size_at, front_at, zoned_at, zoned_in, in_years}, TimesShown.{stamp_shown}, Spells.{AreDigits, since, before, zoned, time}, Stamps.{is_apart, is_near, near, unit_of, SpellsStamp, instant, plain, HasStamp, stamp, stamped, numbered, left_in, stamp_in}, declared.text_fault.TextFault.{TextFault}, declared.text_fault.TextFault.TheVariants.{OutOfYears}, declared.form.{WrittenInstant.{WrittenInstant}, WrittenCount.{WrittenCount}}}}
 use Rattle.zone_words.proofs.InstantAgainLemmas as again
 use Rattle.zone_words.proofs.InstantFoundLemmas as found
 
@@ -41,20 +41,24 @@ unit_some : (k u : ℕ) → unit_of k ≡ Some u → (9 ≤ k) × (1 ≤ u)
 unfolding unit_of
 unit_some k u e = (grind (arith, nat_tests), grind (arith, nat_tests))
 
-plain_few : (n u : ℕ) → 1 ≤ u → IsInYears (pos (n * u)) → n < 10 ^ 25
+-- what is near lies in the years
+pub near_years : (n : ℕ) → n < 2840140800000000000 → in_years (pos n) ≡ Ok (pos n)
+near_years n below = again.within (pos n) (years_between (pos n) (omega (arith, signed)) (omega (arith, signed)))
+
+plain_few : (n u : ℕ) → 1 ≤ u → is_near (n * u) ≡ true → n < 10 ^ 25
 plain_few n u some inside =
-    let most : n * u < 253402300800000000000 = omega (arith, signed, years_end (pos (n * u)) inside) in
+    let most : n * u < 2840140800000000000 = grind (arith, nat_tests, (and_parts (nat_le 631152000000000000 (n * u)) _ inside).1) in
     let less : n ≤ n * u = le-mul_of_pos_right n some in
     omega (arith, most, less)
 
-plain_again : {a : List ℕ} {n u : ℕ} → AreDigits a n → unit_of (length a) ≡ Some u → IsInYears (pos (n * u)) → (rest : List ℕ) → is_apart rest ≡ true
+plain_again : {a : List ℕ} {n u : ℕ} → AreDigits a n → unit_of (length a) ≡ Some u → is_near (n * u) ≡ true → (rest : List ℕ) → is_apart rest ≡ true
     → numbered (a ++ rest) ≡ Some (pos (n * u), length rest)
 unfolding numbered
 plain_again {a} {n} {u} are unit inside rest apart =
     let run = run_again a rest are.digits (no_digit rest (apart_stops rest apart)) in
     let few = plain_few n u (unit_some (length a) u unit).1 inside in
     let count : count_of a ≡ n = ap (λ k. min k (10 ^ 25)) are.value ∙ min-eq_left (omega arith) in
-    rw (run.0, run.1, unit, count, apart, again.within (pos (n * u)) inside) refl
+    rw (run.0, run.1, unit, count, apart, inside) refl
 
 left_again : {a : List ℕ} {t : ℤ} → SpellsStamp a t → (rest : List ℕ) → is_apart rest ≡ true → left_in (a ++ rest) ≡ Some (t, length rest)
 unfolding left_in count_in
@@ -140,6 +144,11 @@ count_stamp text y gave =
       | inr other ↦ since_stamp (found.size_found false text gave.read other.1 bound) gave.apart years.0
     ]))
 
+near_found : (n : ℕ) (x : ℤ) → near n ≡ Ok x → (is_near n ≡ true) × (pos n ≡ x)
+near_found n x e =
+    let both = passed (is_near n) (Ok (pos n)) OutOfYears x e in
+    (both.0, same_Ok (pos n) x both.1)
+
 plain_stamp : (text : List ℕ) (y : ℤ × ℕ) → numbered text ≡ Some y → HasLeft text y.0 y.1
 unfolding numbered
 plain_stamp text y e =
@@ -147,11 +156,11 @@ plain_stamp text y e =
     let unit = bind_some _ (unit_of (length run)) y e in
     let some = unit_some (length run) unit.0 unit.1 in
     let counted : Result (ℕ × List ℕ) TextFault = Ok (count_of run * unit.0, after_run text) in
-    let gave : Gave counted (λ n. in_years (pos n)) y = stamped_found counted (λ n. in_years (pos n)) y unit.2 in
+    let gave : Gave counted near y = stamped_found counted near y unit.2 in
     let same : (count_of run * unit.0, after_run text) ≡ gave.read = same_Ok _ gave.read gave.is in
-    let years = found.years_found (pos gave.read.0) y.0 gave.gives in
+    let years = near_found gave.read.0 y.0 gave.gives in
     let number : count_of run * unit.0 ≡ gave.read.0 = ap (λ p. p.0) same in
-    let inside : IsInYears (pos (count_of run * unit.0)) = rw number years.0 in
+    let inside : is_near (count_of run * unit.0) ≡ true = rw number years.0 in
     let few = plain_few (count_of run) unit.0 some.1 inside in
     let are : AreDigits run (count_of run) = record { some = omega (arith, some.0); digits = run_passes text; value = omega (arith, few) } in
     let rest : after_run text ≡ gave.read.1 = ap (λ p. p.1) same in

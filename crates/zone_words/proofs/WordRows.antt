@@ -2,7 +2,7 @@
 use Rattle.std.{proofs.Common.{◌≡◌, refl, map, ◌==◌, ℕ, Bool, true, false, List, [], ◌∷◌, ◌++◌, get_or, Option, Some, None, Ok, Err, pos}, specs.Prelude.{codes}, specs.List.{slice_split}}
 use Rattle.basics.specs.{Days.{is_leap, days_in_year, days_in_month, days_after_zero, days_before_zero, year_start, days_through, days_into_year, day}, Numbers.{value_in}}
 use Rattle.civil_base.specs.{Clock.{time_at}, Layout.{day_part, time_part}}
-use Rattle.zone_words.specs.{Numbers.{moment, seconds_east, counted}, Pieces.{digit_at, two_at, four_at, date_at, minute_at, second_at, offset_at}, Readings.{digits_at, fraction_at, front_at, seconds_at, moment_in, local_in, in_years, zoned_at, zoned_in, size_at, count_at, count_in, counted_in, written_in, instant_in, asked_in}, declared.answer_form.AnswerForm.{AnswerForm}, declared.answer_form.AnswerForm.TheVariants.{People, Rfc3339, Epoch, Json}, Arguments.{task_in}, Faults.{Reading}, Sorted.{put_any, put_option, put_word}, Tasks.{AlarmAsked, TaskAsked, WordsAsked, help, version, at_instants, local_time, converted, list_changes, alarm, names, stream, log, tree, file, posix_string, chart, plain_form}, Values.{date_in, time_in, number_of, year_of}, Words.{words_in}, declared.{command.Command.TheVariants.{At}, fault.WordCause.{WordCause}, task.FoldRule.TheVariants.{First, Second, Both}, task.GapRule.TheVariants.{Skip, Before, After}}}
+use Rattle.zone_words.specs.{Numbers.{moment, seconds_east, counted}, Pieces.{digit_at, two_at, four_at, date_at, minute_at, second_at, offset_at}, Readings.{digits_at, fraction_at, front_at, seconds_at, moment_in, local_in, in_years, zoned_at, zoned_in, size_at, count_at, count_in, counted_in, written_in, instant_in, asked_in}, declared.answer_form.AnswerForm.{AnswerForm}, declared.answer_form.AnswerForm.TheVariants.{People, Rfc3339, Epoch, Json}, Arguments.{task_in}, FaultLines.{quoted}, Faults.{Reading}, ToldWords.{told_word}, Sorted.{put_any, put_option, put_word}, Tasks.{AlarmAsked, TaskAsked, WordsAsked, help, version, at_instants, local_time, converted, list_changes, alarm, names, stream, log, tree, file, posix_string, chart, plain_form}, Values.{date_in, time_in, number_of, year_of}, Words.{words_in}, declared.{command.Command.TheVariants.{At}, fault.WordCause.{WordCause}, task.FoldRule.TheVariants.{First, Second, Both}, task.GapRule.TheVariants.{Skip, Before, After}}}
 use Rattle.zone_words.specs.declared.text_fault.TextFault.TheVariants as text
 use Rattle.zone_words.specs.declared.fault.WordCause.TheVariants as cause
 
@@ -133,3 +133,12 @@ unfolding is_leap days_in_year days_in_month days_after_zero days_before_zero ye
     moment_in local_in in_years zoned_at zoned_in size_at count_at count_in counted_in written_in instant_in asked_in
     day_part time_part value_in number_of year_of date_in time_in put_any put_option put_word task_in words_in
 worked = refl
+
+-- a word as it is told; bytes of other characters stay
+told : map told_word (codes "Europe/Paris" ∷ (34 ∷ 92 ∷ 39 ∷ []) ∷ (97 ∷ 10 ∷ 98 ∷ 9 ∷ 13 ∷ 0 ∷ 31 ∷ 32 ∷ 126 ∷ 127 ∷ 128 ∷ 195 ∷ 164 ∷ []) ∷ [])
+    ≡ codes "Europe/Paris" ∷ (92 ∷ 34 ∷ 92 ∷ 92 ∷ 39 ∷ []) ∷ (codes "a\\nb\\t\\x0d\\x00\\x1f ~\\x7f" ++ 128 ∷ 195 ∷ 164 ∷ []) ∷ []
+told = refl
+
+-- two words of one text
+quoted_pair : quoted (record { word = codes "a"; more = Some (10 ∷ []); cause = cause.Weekdays }) ≡ (34 ∷ codes "a \\n") ++ 34 ∷ codes ": "
+quoted_pair = refl

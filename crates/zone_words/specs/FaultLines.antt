@@ -1,6 +1,6 @@
 -- The line that tells a fault of words.
 use Rattle.std.specs.{Prelude.{ℕ, List, [], ◌∷◌, ◌++◌, length, nat_eq, codes, if◌then◌else◌}, Option.{option_map_or}}
-use Rattle.zone_words.specs.{FaultTexts.{fault_text}, Faults.{Fault}, declared.fault.WordCause.{WordCause}}
+use Rattle.zone_words.specs.{FaultTexts.{fault_text}, Faults.{Fault}, ToldWords.{told_word}, declared.fault.WordCause.{WordCause}}
 use Rattle.zone_words.specs.declared.fault.WordCause.TheVariants as cause
 
 abbrev pub cause_text : WordCause → List ℕ
@@ -23,11 +23,11 @@ cause_text cause.Year = codes "a year goes from 0 to 9999"
 cause_text (cause.Text fault) = fault_text fault
 cause_text cause.NoMemory = codes "out of memory"
 
--- the word and the one behind it in quotes, and `: `; nothing for no word
+-- the word and the one behind it in quotes, as words are told, and `: `; nothing for no word
 abbrev pub quoted : Fault → List ℕ
 quoted fault =
     if nat_eq (length fault.word) 0 then []
-    else ((34 ∷ fault.word) ++ option_map_or (λ more. 32 ∷ more) fault.more []) ++ 34 ∷ codes ": "
+    else ((34 ∷ told_word fault.word) ++ option_map_or (λ more. 32 ∷ told_word more) fault.more []) ++ 34 ∷ codes ": "
 
 unfoldable pub fault_line : Fault → List ℕ
 fault_line fault = ((codes "zone: " ++ quoted fault) ++ cause_text fault.cause) ++ 10 ∷ []

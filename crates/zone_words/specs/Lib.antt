@@ -27,4 +27,5 @@ pub mod TaskShown
 pub mod Alarms
 pub mod Arguments
 pub mod Words
+pub mod ToldWords
 pub mod FaultLines

@@ -1,9 +1,8 @@
 -- Times at the front of a text, as logs have them.
-use Rattle.std.specs.{Prelude.{◌≡◌, ℕ, ◌-◌, ◌*◌, Bool, true, ◌||◌, ◌==◌, not, nat_lt, List, [], ◌∷◌, ◌++◌, length, Option, Some, None, Result, Ok, Err, if◌then◌else◌, ℤ, pos}, Prelude.{option_map, option_and_then, is_ok}, Option.{option_map_or}}
+use Rattle.std.specs.{Prelude.{◌≡◌, ℕ, ◌-◌, ◌*◌, Bool, true, ◌||◌, ◌&&◌, ◌==◌, not, nat_le, nat_lt, List, [], ◌∷◌, ◌++◌, length, Option, Some, None, Result, Ok, Err, if◌then◌else◌, ℤ, pos}, Prelude.{option_map, option_and_then, is_ok}, Option.{option_map_or}}
 use Rattle.std.specs.{Result.{result_ok}, Char.{is_ascii_alphabetic, is_ascii_digit}}
-use Rattle.civil_base.specs.Ranges.{IsInYears}
 use Rattle.basics.specs.Marks.{after_mark}
-use Rattle.zone_words.specs.{Pieces.{run_of, after_run}, Readings.{count_at, count_in, count_of, in_years, zoned_at, zoned_in}, Spells.{AreDigits, SpellsInstant}, declared.text_fault.TextFault.{TextFault}}
+use Rattle.zone_words.specs.{Pieces.{run_of, after_run}, Readings.{count_at, count_in, count_of, zoned_at, zoned_in}, Spells.{AreDigits, SpellsInstant}, declared.text_fault.TextFault.{TextFault}, declared.text_fault.TextFault.TheVariants.{OutOfYears}}
 
 -- a byte that can't follow a time: an ASCII letter, a digit, `.`, `:` or `-`
 abbrev pub joins : ℕ → Bool
@@ -21,10 +20,14 @@ unit_of digits =
     else (if nat_lt digits 12 then Some 1000000000 else (if nat_lt digits 15 then Some 1000000
     else (if nat_lt digits 18 then Some 1000 else (if nat_lt digits 21 then Some 1 else None))))
 
--- an instant, or a plain number of 9 to 20 digits
+-- from 1990-01-01 on and before 2060-01-01 UTC; a number of any other instant is seldom a time, and no date written without marks is one of these
+abbrev pub is_near : ℕ → Bool
+is_near nanos = nat_le 631152000000000000 nanos && nat_lt nanos 2840140800000000000
+
+-- an instant, or a plain number of one near today
 pub data SpellsStamp : List ℕ → ℤ → Type 0 where
   instant : {a : List ℕ} {t : ℤ} → SpellsInstant a t → SpellsStamp a t
-  plain : {a : List ℕ} {n u : ℕ} → AreDigits a n → unit_of (length a) ≡ Some u → IsInYears (pos (n * u)) → SpellsStamp a (pos (n * u))
+  plain : {a : List ℕ} {n u : ℕ} → AreDigits a n → unit_of (length a) ≡ Some u → is_near (n * u) ≡ true → SpellsStamp a (pos (n * u))
 
 -- a text of t stands at the front of a text, of so many bytes
 pub data HasStamp : List ℕ → ℤ → ℕ → Type 0 where
@@ -35,9 +38,13 @@ abbrev pub stamped : {F : Type 0} → Result (F × List ℕ) TextFault → (F �
 stamped (Ok read) value = if is_apart read.1 then option_map (λ t. (t, length read.1)) (result_ok (value read.0)) else None
 stamped (Err fault) value = None
 
+-- the instant so many nanoseconds after 1970, if it is near
+abbrev pub near : ℕ → Result ℤ TextFault
+near nanos = if is_near nanos then Ok (pos nanos) else Err OutOfYears
+
 unfoldable pub numbered : List ℕ → Option (ℤ × ℕ)
 numbered text =
-    option_and_then (λ unit. stamped (Ok (count_of (run_of text) * unit, after_run text)) (λ n. in_years (pos n))) (unit_of (length (run_of text)))
+    option_and_then (λ unit. stamped (Ok (count_of (run_of text) * unit, after_run text)) near) (unit_of (length (run_of text)))
 
 -- a date stands where RFC 3339's form does, so that no plain number does
 unfoldable pub left_in : List ℕ → Option (ℤ × ℕ)

@@ -2,6 +2,7 @@
 ghost use Rattle.std.specs.Prelude.{◌≡◌, ◌++◌, ◌∷◌, [], IfOk, OnOk};
 ghost use Rattle.zone_words.specs.{FaultLines.{cause_text, fault_line, quoted}, Told.{fault_shown}};
 
+use crate::told_word::add_told_word;
 use crate::{WordCause, WordFault};
 use std::alloc::{AllocError, Global};
 
@@ -41,10 +42,10 @@ fn add_quoted(into: &mut Vec<u8>, fault: &WordFault<'_>) -> Result<(), AllocErro
         return Ok(());
     }
     into.extend_from_slice(b"\"")?;
-    into.extend_from_slice(fault.word.as_bytes())?;
+    add_told_word(into, fault.word)?;
     if let Some(more) = fault.more {
         into.extend_from_slice(b" ")?;
-        into.extend_from_slice(more.as_bytes())?;
+        add_told_word(into, more)?;
     }
     into.extend_from_slice(b"\": ")?;
     Ok(())

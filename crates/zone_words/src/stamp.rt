@@ -1,7 +1,7 @@
 //! Times at the front of a text, as logs have them.
-ghost use Rattle.std.specs.{Prelude.{◌≡◌, ◌≤◌, ◌*◌, ◌^◌, ℕ, ℤ, pos, None, length, option_map, IfSome, if◌then◌else◌, MatchOption}, Result.{result_ok, result_map_both}};
+ghost use Rattle.std.specs.{Prelude.{◌≡◌, ◌≤◌, ◌*◌, ◌^◌, ℕ, ℤ, None, length, option_map, IfSome, if◌then◌else◌, MatchOption}, Result.{result_ok, result_map_both}};
 ghost use Rattle.civil_base.specs.DateTimes.{instant};
-ghost use Rattle.zone_words.specs.{Readings.{count_at, count_in}, TimesShown.{stamp_shown}, Stamps.{joins, is_apart, unit_of, stamped, numbered, left_in, stamp_in, HasStamp}};
+ghost use Rattle.zone_words.specs.{Readings.{count_at, count_in}, TimesShown.{stamp_shown}, Stamps.{joins, is_apart, near, unit_of, stamped, numbered, left_in, stamp_in, HasStamp}};
 
 use crate::TextFault;
 use crate::instant::{count_at, zoned_at};
@@ -10,7 +10,8 @@ use crate::value::{count_in, in_years, zoned_in};
 use civil_base::OffsetDateTime;
 
 /// The time at the front of a text, as logs have them, and of how many bytes its text is: `@S` or `@S.F`, a text of RFC 3339,
-/// or a plain number of 9 to 11 digits as seconds, 12 to 14 as milliseconds, 15 to 17 as microseconds, 18 to 20 as nanoseconds.
+/// or a plain number of 9 to 11 digits as seconds, 12 to 14 as milliseconds, 15 to 17 as microseconds, 18 to 20 as nanoseconds, where
+/// that lies from 1990-01-01 on and before 2060-01-01 UTC: as `20241027023000`, a date without marks, a number is seldom a time elsewhere.
 /// What follows is the end of the text or a byte other than an ASCII letter, a digit, `.`, `:` and `-`. Else there is none.
 pub fn read_stamp(text: &[u8]) -> Option<(OffsetDateTime, usize)>
     ensures value { option_map stamp_shown result ≡ stamp_in text.now }
@@ -87,12 +88,29 @@ fn counted(text: &[u8]) -> Option<(OffsetDateTime, usize)>
     }
 }
 
-/// The nanoseconds of a number of units.
-fn nanos_of(number: u128, unit: u32) -> i128
-    requires { number ≤ 10 ^ 25 }
-    ensures { result ≡ pos (number * unit) }
+/// 1990-01-01 00:00:00 UTC.
+const NEAR_FROM: u128 = 631_152_000_000_000_000;
+
+/// 2060-01-01 00:00:00 UTC.
+const NEAR_TO: u128 = 2_840_140_800_000_000_000;
+
+/// The instant so many nanoseconds after 1970, if it is near.
+#[tactic(auto, using(crate::proofs::StampLemmas::near_years))]
+fn near(nanos: u128) -> Result<OffsetDateTime, TextFault>
+    ensures { result_map_both instant (λ fault. fault) result ≡ near nanos }
 {
-    (number * u128::from(unit)) as i128
+    if nanos < NEAR_FROM || nanos >= NEAR_TO {
+        return Err(TextFault::OutOfYears);
+    }
+    in_years(nanos as i128)
+}
+
+/// The nanoseconds of a number of units.
+fn nanos_of(number: u128, unit: u32) -> u128
+    requires { number ≤ 10 ^ 25 }
+    ensures { result ≡ number * unit }
+{
+    number * u128::from(unit)
 }
 
 /// The instant of a plain number.
@@ -102,7 +120,7 @@ fn numbered(text: &[u8]) -> Option<(OffsetDateTime, usize)>
 {
     let (digits, rest) = split_digits(text);
     let unit = unit_of(digits.len())?;
-    apart(in_years(nanos_of(number_of(digits), unit)), rest)
+    apart(near(nanos_of(number_of(digits), unit)), rest)
 }
 
 /// The time at the front, and how many bytes follow it.

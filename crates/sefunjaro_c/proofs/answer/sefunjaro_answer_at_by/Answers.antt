@@ -1,6 +1,6 @@
 use Rattle.std.proofs.Common.{◌≡◌, to_z-of_z, subst}
-use Rattle.sefunjaro.specs.{Answers.{IsAnswer, TellsUntil}, Any.{Seen}}
-use Rattle.sefunjaro_c.{specs.{Held.{OnZone}, Answers.{is_shown, Where, Within}, Times.{is_instant, nanos_at}}, proofs.AskedLemmas.{handed}}
+use Rattle.sefunjaro.specs.Answers.{IsAnswer, TellsUntil}
+use Rattle.sefunjaro_c.{specs.{Held.{OnZone, Seen}, Answers.{is_shown, Where, Within}, Times.{is_instant, nanos_at}}, proofs.AskedLemmas.{handed}}
 use Rattle.sefunjaro_c.proofs.answer.sefunjaro_answer_at_by.Goals as goal
 
 pub returns-clause-answer : goal.returns-clause-answer

@@ -1,6 +1,6 @@
 use Rattle.std.{proofs.Common.{◌≡◌, ◌∙◌, inl, refl, ap, subst}, specs.Prelude.{Option, Some, None}, specs.Arc.{arc_value}}
-use Rattle.sefunjaro.specs.{Answered.{first_of}, Any.{Seen}, Clocks.{clock_shown}, declared.zone.Reading.{Reading}}
-use Rattle.sefunjaro_c.{specs.{declared.opened.Opened.TheVariants.{Zone}, Changes.{IsFound, IsRing}}, proofs.{AskedLemmas.{of_zone}, ShownLemmas.{seen_map}}}
+use Rattle.sefunjaro.specs.{Answered.{first_of}, Clocks.{clock_shown}, declared.zone.Reading.{Reading}}
+use Rattle.sefunjaro_c.{specs.{Held.{Seen}, declared.opened.Opened.TheVariants.{Zone}, Changes.{IsFound, IsRing}}, proofs.{AskedLemmas.{of_zone}, ShownLemmas.{seen_map}}}
 use Rattle.sefunjaro_c.proofs.changes.ring_of.Goals as goal
 
 pub returns-in-Some-ring-clause-answer : goal.returns-in-Some-ring-clause-answer

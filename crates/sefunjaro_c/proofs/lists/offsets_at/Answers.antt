@@ -1,6 +1,6 @@
 use Rattle.std.{proofs.Common.{◌≡◌, ◌∙◌, refl, sym, subst}, specs.Arc.{arc_value}}
-use Rattle.sefunjaro.specs.{Any.{Seen}, Offsets.{offsets_of}, Rooms.{filled}}
-use Rattle.sefunjaro_c.{specs.{declared.opened.Opened.TheVariants.{Zone}, Lists.{far_place, OfPlace}}, proofs.{AskedLemmas.{of_zone}, ListLemmas.{all_in_years}}}
+use Rattle.sefunjaro.specs.{Offsets.{offsets_of}, Rooms.{filled}}
+use Rattle.sefunjaro_c.{specs.{Held.{Seen}, declared.opened.Opened.TheVariants.{Zone}, Lists.{far_place, OfPlace}}, proofs.{AskedLemmas.{of_zone}, ListLemmas.{all_in_years}}}
 use Rattle.sefunjaro_c.proofs.lists.offsets_at.Goals as goal
 
 pub offsets_at-requires : goal.offsets_at-requires

@@ -1,7 +1,7 @@
 use Rattle.std.{proofs.Common.{◌≡◌, ◌∙◌, to_z-of_z, true, ap, subst}, specs.Arc.{arc_value}}
 use Rattle.civil_base.specs.DateTimes.{instant}
-use Rattle.sefunjaro.specs.{Answered.{IsInForce}, Any.{Seen}}
-use Rattle.sefunjaro_c.{specs.{declared.opened.Opened.TheVariants.{Zone}, Answers.{Where}, Times.{is_instant, nanos_at}}, proofs.{AskedLemmas.{of_zone, where_true}, ShownLemmas.{seen_map}}}
+use Rattle.sefunjaro.specs.Answered.{IsInForce}
+use Rattle.sefunjaro_c.{specs.{Held.{Seen}, declared.opened.Opened.TheVariants.{Zone}, Answers.{Where}, Times.{is_instant, nanos_at}}, proofs.{AskedLemmas.{of_zone, where_true}, ShownLemmas.{seen_map}}}
 use Rattle.sefunjaro_c.proofs.zones.in_force.Goals as goal
 
 pub returns-in-Some-clause-answer : goal.returns-in-Some-clause-answer
@@ -15,4 +15,4 @@ returns-in-Some-clause-answer c =
     (subst (λ u. is_instant u n ≡ true) same known.0)
     (seen_map zone (λ total gives. IsInForce total gives t found old new) (λ total gives. IsInForce total gives (nanos_at s n) found old new)
     (λ total gives h. subst (λ u. IsInForce total gives u found old new) (known.1 ∙ ap (λ u. nanos_at u n) same) h)
-    (subst (λ z. Seen z (λ total gives. IsInForce total gives t found old new)) c.deref.ensures c.in_force.ensures)))
+    (subst (λ z. Seen z (λ total gives. IsInForce total gives t found old new)) c.deref.ensures (record { offset = c.in_force.ensures.offset; named = c.in_force.ensures.name }))))

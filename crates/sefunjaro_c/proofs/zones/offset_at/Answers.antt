@@ -1,7 +1,6 @@
 use Rattle.std.{proofs.Common.{◌≡◌, ◌∙◌, to_z, of_z, to_z-of_z, true, FitsSigned, w32, rules, ap, subst}, specs.Arc.{arc_value}}
 use Rattle.civil_base.specs.DateTimes.{instant}
-use Rattle.sefunjaro.specs.Any.{Seen}
-use Rattle.sefunjaro_c.{specs.{declared.opened.Opened.TheVariants.{Zone}, Answers.{Where}, Times.{is_instant, nanos_at}}, proofs.{AskedLemmas.{of_zone, where_true}, ShownLemmas.{seen_map}}}
+use Rattle.sefunjaro_c.{specs.{Held.{Seen}, declared.opened.Opened.TheVariants.{Zone}, Answers.{Where}, Times.{is_instant, nanos_at}}, proofs.{AskedLemmas.{of_zone, where_true}, ShownLemmas.{seen_map}}}
 use Rattle.sefunjaro_c.proofs.zones.offset_at.Goals as goal
 
 pub returns-in-Some-clause-answer : goal.returns-in-Some-clause-answer

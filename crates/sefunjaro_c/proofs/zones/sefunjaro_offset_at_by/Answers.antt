@@ -1,6 +1,5 @@
 use Rattle.std.proofs.Common.{◌≡◌, to_z-of_z, subst}
-use Rattle.sefunjaro.specs.Any.{Seen}
-use Rattle.sefunjaro_c.{specs.{Held.{OnZone}, Answers.{Where}, Times.{is_instant, nanos_at}}, proofs.AskedLemmas.{handed}}
+use Rattle.sefunjaro_c.{specs.{Held.{OnZone, Seen}, Answers.{Where}, Times.{is_instant, nanos_at}}, proofs.AskedLemmas.{handed}}
 use Rattle.sefunjaro_c.proofs.zones.sefunjaro_offset_at_by.Goals as goal
 
 pub returns-clause-answer : goal.returns-clause-answer

@@ -5,7 +5,7 @@ use Rattle.zone_command.proofs.any_source.opened.Goals as goal
 pub returns-in-Ok-clause-ok : goal.returns-in-Ok-clause-ok
 returns-in-Ok-clause-ok c =
     found_as (table_in c.args.source.now) c.args.name.now c.in-Ok.zone c.in-Ok.ensures.ok c.in-Ok.ensures.accepted c.in-Ok.ensures.goes_on
-    c.in-Ok.ensures.recurs c.accepted_for_ever.ensures
+    c.in-Ok.ensures.recurs c.in-Ok.ensures.origin c.accepted_for_ever.ensures
 
 pub returns-in-Ok-clause-ever : goal.returns-in-Ok-clause-ever
 returns-in-Ok-clause-ever c =

@@ -41,6 +41,12 @@ returns-in-Err-Untold g c =
     c.loop-time.time-index c.time-item.result c.loop-time.text.items (instant c.moment_of-at.result) _ _ c.loop-time-test.true
     c.time-item.is c.moment_of-at.ensures (rw c.in-Err-Untold.field-0-is at c.in-Err-Untold.ensures.cause) c.loop-time.invariant
 
+pub returns-in-Err-Skipped : goal.returns-in-Err-Skipped
+returns-in-Err-Skipped g c =
+    ends_at c.args.style.now.form (g.Z.ReplyZone.view c.args.zone.now) c.args.style.now.name.now (instant c.args.now.now) c.args.times.now
+    c.loop-time.time-index c.time-item.result c.loop-time.text.items (instant c.moment_of-at.result) _ _ c.loop-time-test.true
+    c.time-item.is c.moment_of-at.ensures (rw c.in-Err-Skipped.field-0-is at c.in-Err-Skipped.ensures.cause) c.loop-time.invariant
+
 pub returns : goal.returns
 returns g c =
     let left : List Asked → Due = λ times.

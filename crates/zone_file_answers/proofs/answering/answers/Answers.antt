@@ -1,8 +1,8 @@
 use Rattle.std.proofs.Common.{Err, ap, subst}
-use Rattle.tz_tzif.specs.{Faults.{IsTzifFault}, InForce.{told_total_at}, Zones.{says_of, value_of}}
+use Rattle.tz_tzif.specs.Faults.{IsTzifFault}
 use Rattle.tz_tzif.specs.declared.fault.TzifFault.TheVariants as tzif
 use Rattle.zone_tzif_core.specs.{Denotes.{Says}, ZoneFiles.{ReadsFile, zone_seen}}
-use Rattle.zone_file_answers.proofs.ResponseLemmas.{found_over, no_file, not_refused}
+use Rattle.zone_file_answers.proofs.ResponseLemmas.{no_file, not_refused}
 use Rattle.zone_file_answers.proofs.answering.answers.Goals as goal
 
 pub returns-in-Err-Refused : goal.returns-in-Err-Refused
@@ -12,23 +12,9 @@ returns-in-Err-Refused c = λ total is.
 pub returns-in-Err-NoMemory : goal.returns-in-Err-NoMemory
 returns-in-Err-NoMemory c = c.wanting.ensures c.args.requests.now
 
-pub returns-in-Ok-new : goal.returns-in-Ok-new
-returns-in-Ok-new c =
-    let total = told_total_at (value_of c.in-Ok-new.tz) (says_of c.in-Ok-new.tz) in
-    let zone = c.in-Ok-new.ensures in
-    found_over c.args.file.now c.args.requests.now total
-    (record {
-      value = zone_seen c.in-Ok.zone;
-      footer = says_of c.in-Ok-new.tz;
-      says = c.in-Ok.ensures.exact;
-      accepted = zone.accepted;
-      is = ap (λ value. told_total_at value (says_of c.in-Ok-new.tz)) zone.is;
-    })
-    c.answer_all.result c.answer_all.ensures.valid c.answer_all.ensures.lines c.answer_all.ensures.err
-
-pub returns-in-Err-NoMemory-new : goal.returns-in-Err-NoMemory-new
-returns-in-Err-NoMemory-new c =
-    let fault = subst (IsTzifFault (zone_seen c.in-Ok.zone)) c.in-Err-NoMemory-new.field-0-is c.in-Err-NoMemory-new.ensures in
+pub returns-in-Err-NoMemory-spans_of : goal.returns-in-Err-NoMemory-spans_of
+returns-in-Err-NoMemory-spans_of c =
+    let fault = subst (IsTzifFault (zone_seen c.in-Ok.zone)) c.in-Err-NoMemory-spans_of.field-0-is c.in-Err-NoMemory-spans_of.ensures in
     not_refused c.args.file.now (zone_seen c.in-Ok.zone) c.in-Ok.ensures.exact fault.0 fault.1
 
 pub returns-in-Err-Times : goal.returns-in-Err-Times

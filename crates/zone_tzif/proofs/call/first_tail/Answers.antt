@@ -14,4 +14,4 @@ loop-number-preserved g c j l =
     (cases_lt j n)
 
 pub returns : goal.returns
-returns g c = (c.requires.none, λ j l. c.loop-number.invariant j (omega arith))
+returns g c = (c.requires.unsaved, c.requires.none, λ j l. c.loop-number.invariant j (omega arith))

@@ -1,7 +1,7 @@
 use borrow.Author.Rules.{to_z-of_z_to}
 use Rattle.std.proofs.Common.{w64, rules, sym, ap, ◌∙◌}
 use Rattle.zone_spans.specs.declared.span.FixedTimespan.{FixedTimespan}
-use Rattle.zone_tail.specs.Tails.{can_be_written, is_name}
+use Rattle.zone_tail.specs.Tails.{can_be_written, is_posix_name}
 use Rattle.zone_tzif.{specs.Tried.{form_fault, written_or}, proofs.FormLemmas.{total_of_span-is}}
 use Rattle.zone_tzif.proofs.faults.fault_in.Goals as goal
 
@@ -12,7 +12,7 @@ returns-in-Steady g c =
     let shows = rw c.in-Steady.is at c.requires.form in
     let written = c.can_be_written.ensures
     ∙ ap can_be_written (to_z-of_z_to w64 c.total_of.result _ (search rules) (c.total_of.ensures.total ∙ total_of_span-is set c.in-Steady.span shows.1)) in
-    let name = c.is_name.ensures ∙ ap is_name (c.as_str.ensures ∙ ap (λ (s : FixedTimespan). s.name) c.span.ensures) in
+    let name = c.is_posix_name.ensures ∙ ap is_posix_name (c.as_str.ensures ∙ ap (λ (s : FixedTimespan). s.name) c.span.ensures) in
     c.written_or.ensures ∙ (λ i. written_or (written i) (name i)) ∙ sym (ap form_fault shows.0)
 
 pub returns-in-Yearly : goal.returns-in-Yearly

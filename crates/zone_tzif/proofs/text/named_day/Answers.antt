@@ -1,4 +1,4 @@
-use Rattle.std.{proofs.Common.{◌≡◌, ◌/◌, ◌+ℤ◌, ◌-ℤ◌, ◌*ℤ◌, ◌≤ℤ◌, ◌<ℤ◌, pos, to_z-of_z, sym, ap, ◌∙◌, subst}, specs.Int.{int_div_euclid}}
+use Rattle.std.{proofs.Common.{◌≡◌, ◌+ℤ◌, ◌-ℤ◌, ◌*ℤ◌, ◌≤ℤ◌, ◌<ℤ◌, pos, to_z-of_z, sym, ap, ◌∙◌, subst}, specs.Int.{int_div_euclid}}
 use Rattle.zone_tzif.{specs.Tried.{days_back}, proofs.DayLemmas.{begun_by, named_by, near_day, over_by, IsNamedDay}}
 use Rattle.zone_tzif.proofs.text.named_day.Goals as goal
 
@@ -14,7 +14,7 @@ named c =
 
 pub returns-clause-is : goal.returns-clause-is
 returns-clause-is c =
-    let b = c.days_back-back.ensures.is ∙ ap (λ late. days_back late (c.args.number / 2)) (rw (to_z-of_z c.ranges.local) at c.is_past_noon.ensures) in
+    let b = c.days_back-back.ensures.is ∙ ap (λ late. days_back late c.args.number) (rw (to_z-of_z c.ranges.local) at c.is_past_noon.ensures) in
     (named c).computed ∙ (λ i. day_is c i -ℤ b i)
 
 pub returns-clause-begun : goal.returns-clause-begun

@@ -1,9 +1,0 @@
-use Rattle.std.proofs.Common.{◌≡◌, drop, map}
-use Rattle.zone_texts.specs.{Faults.{behind}, Frames.{each_numbered}, Grids.{bottom_of}, Lines.{zone_due}, SeenZones.{named}}
-use Rattle.zone_texts.proofs.chart.add_zones.Given as goal
-
-abbrev pub invariant-loop-number : goal.invariant-loop-number
-invariant-loop-number g l =
-    let due = zone_due l.frame.year l.frame.high (bottom_of l.frame.low l.frame.high) in
-    behind l.into.items (each_numbered due l.number (map (named g.Z.ReplyZone.view) (drop l.number l.zones)))
-    ≡ behind l.fn.into.items (each_numbered due 0 (map (named g.Z.ReplyZone.view) l.zones))

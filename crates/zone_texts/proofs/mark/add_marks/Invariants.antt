@@ -1,8 +1,0 @@
-use Rattle.std.proofs.Common.{◌≡◌, drop, map}
-use Rattle.zone_texts.specs.{Faults.{behind, each_due}, Frames.{each_numbered}, Lines.{mark_due}}
-use Rattle.zone_texts.proofs.mark.add_marks.Given as goal
-
-abbrev pub invariant-loop-change : goal.invariant-loop-change
-invariant-loop-change g l =
-    let due = mark_due l.frame.year l.frame.high (g.Z.ReplyZone.view l.zone) in
-    behind l.into.items (each_numbered (λ _. due) l.change-index (map (λ s. s) (drop l.change-index l.changes))) ≡ behind l.fn.into.items (each_due due l.changes)
